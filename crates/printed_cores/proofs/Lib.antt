@@ -1,6 +1,7 @@
 pub mod OpenedCores
-pub mod ReadArms
 pub mod ReadAsked
+pub mod ReadBlocks
+pub mod ReadChains
 pub mod ReadConditions
 pub mod ReadCopies
 pub mod ReadCores
@@ -9,7 +10,6 @@ pub mod ReadItems
 pub mod ReadJoins
 pub mod ReadLaterals
 pub mod ReadLists
-pub mod ReadPairs
 pub mod ReadQueries
 pub mod ReadSets
 pub mod ReadSublinkForms

@@ -11,8 +11,8 @@ use Rattle.name_meaning.specs.Froms.{from_all}
 use Rattle.name_meaning.specs.Meanings.{Around, QueryMeant}
 use Rattle.name_meaning.specs.Trees.{core_of, from_of, item_of, part_of}
 use Rattle.tree_texts.specs.Forms as f
-use Rattle.tree_texts.specs.Forms.{ExprForm, FromForm, ItemForms}
-use Rattle.tree_texts.specs.Trees.{AreItems, AreSources, IsCore, IsExpr, IsItem, condition_tree, no_column_trees, no_condition_tree, select_tree}
+use Rattle.tree_texts.specs.Forms.{ConditionForm, ExprForm, FromForm, ItemForms}
+use Rattle.tree_texts.specs.Trees.{AreItems, AreSources, IsCondition, IsCore, IsExpr, IsItem, condition_tree, no_column_trees, no_condition_tree, select_tree}
 
 -- what a core means over its parts
 abbrev pub core_over_parts : Contents → Bool → List SelectItem → List FromTree → Option ExprTree → Around → QueryMeant
@@ -72,3 +72,20 @@ opened-test c {distinct = distinct} {tree = tree} (select_tree {item = item} {it
         means = λ around. ap (λ (part : BodyPart). part.means around) whole;
       };
     }
+
+-- with a condition or without
+pub record OpenedSelect (c : Contents) (distinct : Bool) (a : ExprForm) (name : List ℕ) (more : ItemForms) (origin : FromForm) (test : ConditionForm) (tree : Core) : Type 0 where
+  pub tested : Option ExprTree
+  pub condition_is : IsCondition test tested
+  pub core : OpenedCore c distinct a name more origin tree tested
+
+pub opened-select : (c : Contents) {distinct : Bool} {a : ExprForm} {name : List ℕ} {more : ItemForms} {origin : FromForm} {test : ConditionForm} {tree : Core}
+    → IsCore (f.select distinct a name more origin test [] f.no_condition) tree → OpenedSelect c distinct a name more origin test tree
+opened-select c (select_tree at d ds from no_condition_tree no_column_trees no_condition_tree is) = record {
+  tested = None;
+  condition_is = no_condition_tree;
+  core = opened-plain c (select_tree at d ds from no_condition_tree no_column_trees no_condition_tree is);
+}
+opened-select c (select_tree at d ds from (condition_tree e) no_column_trees no_condition_tree is) =
+    let t = opened-test c (select_tree at d ds from (condition_tree e) no_column_trees no_condition_tree is) in
+    record { tested = Some t.tested; condition_is = condition_tree t.condition_is; core = t.core }

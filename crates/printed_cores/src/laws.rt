@@ -1,5 +1,5 @@
 //! Each law is the contract of a function that does nothing.
-ghost use Rattle.std.specs.Prelude.{ℕ, suc, Bool, List, [], ◌∷◌, length};
+ghost use Rattle.std.specs.Prelude.{ℕ, suc, Bool, List, ◌∷◌, length};
 ghost use Rattle.perm_values.specs.declared.kind.Kind.{Kind};
 ghost use Rattle.bag_algebra.specs.declared.query.Query.{Query};
 ghost use Rattle.perm_catalog.specs.Contents.{Contents};
@@ -7,9 +7,9 @@ ghost use Rattle.name_meaning.specs.Cores.{distinct_if};
 ghost use Rattle.name_meaning.specs.Froms.{in_from};
 ghost use Rattle.name_meaning.specs.Meanings.{Around};
 ghost use Rattle.tree_texts.specs.Forms.{QueryForm, no_condition};
-ghost use Rattle.query_texts.specs.Names.{naming};
-ghost use Rattle.query_forms.specs.ShownQueries.{columns, listed, one, over, selected};
-ghost use Rattle.printed_queries.specs.Printed.{copied};
+ghost use Rattle.clause_texts.specs.Names.{naming};
+ghost use Rattle.query_forms.specs.ShownQueries.{copied, just};
+ghost use Rattle.printed_queries.specs.Printed.{listed};
 ghost use Rattle.printed_expressions.specs.Scopes.{Few, ScopesAre, marks};
 ghost use Rattle.printed_cores.specs.Queries.{CoreFormRead, FormRead, numbered_names};
 
@@ -23,7 +23,7 @@ pub fn a_printed_copy_is_read_back()
         (kind ∷ more) form q
         → (distinct : Bool) (out first : ℕ)
         → CoreFormRead c around (numbered_names out first (kind ∷ more)) (kind ∷ more)
-        (selected distinct (listed (naming (marks out) first) one
-        (columns (marks (suc depth)) (length (kind ∷ more)))) (over form) no_condition [])
-        (distinct_if distinct (copied (kind ∷ more) q)) }
+        (copied (marks (suc depth)) (length (kind ∷ more)) (just form) no_condition distinct
+        (naming (marks out) first))
+        (distinct_if distinct (listed (kind ∷ more) 0 q)) }
 {}

@@ -19,14 +19,16 @@ use Rattle.bag_algebra.specs.declared.query.Aggr.{Aggr}
 use Rattle.bag_algebra.specs.declared.query.Query.{Query, Row_of-Sublink, more_of-Sublink, end_of-Sublink}
 use Rattle.bag_algebra.specs.declared.query.Query.TheVariants.{Table, Single}
 use Rattle.perm_values.specs.declared.kind.Kind.{Kind}
-use Rattle.tree_texts.specs.Fits.{FitsColumn, FitsCore, FitsExpr, FitsFrom, FitsItems, FitsKey, FitsQuery}
+use Rattle.tree_texts.specs.Fits.{FitsColumn, FitsCondition, FitsCore, FitsExpr, FitsFrom, FitsItems, FitsJoins, FitsKey, FitsQuery}
 use Rattle.tree_texts.specs.Forms as f
-use Rattle.tree_texts.specs.Forms.{ExprForm, KeyForm, QueryForm}
-use Rattle.query_texts.specs.Names.{Naming, deeper, has_id, names_of, nameless, naming, outermost, own}
-use Rattle.query_texts.specs.Unused.{items_use, spare, used_in}
-use Rattle.query_texts.specs.declared.tables.TableNames.{TableNames}
+use Rattle.tree_texts.specs.Forms.{ConditionForm, CoreForm, ExprForm, JoinForms, KeyForm, QueryForm}
+use Rattle.clause_texts.specs.Chains.{is_chained}
+use Rattle.clause_texts.specs.Names.{Naming, deeper, has_id, names_of, nameless, naming, outermost, own, source_prefix}
+use Rattle.clause_texts.specs.Unused.{items_use, spare, used_in}
+use Rattle.clause_texts.specs.declared.tables.TableNames.{TableNames}
+use Rattle.expression_texts.specs.Words.{is_any}
 use Rattle.query_forms.specs.ShownExpressions.{beside, shown_expr}
-use Rattle.query_forms.specs.ShownQueries.{Listed, aggregated, aggregates_from, argument, arguments, below_groups, called, called_from, columns, copied, grouped_columns, in_groups, key_form, listed, named_from, one, over, own_column, projected, shown, shown_answer, sub_forms, tested_by, tested_part}
+use Rattle.query_forms.specs.ShownQueries.{Chain, Framed, Listed, a_block, a_select, a_whole, aggregated, aggregates_from, alone, argument, arguments, apart_unless, below_groups, called, called_from, columns, copied, framed, grouped_columns, in_groups, joined, joined_to, just, key_form, listed, named_from, of_table, one, own_column, projected, selected, shown, shown_answer, source_name, sources, stays, sub_forms, tested_by, tested_part, then_joins}
 use Rattle.printed_queries.specs.Writable.{Writable, WritableAggregates, WritableItems, WritableOption}
 use Rattle.printed_forms.specs.Printable.{AreCharacters, Printable, PrintableSubs}
 use Rattle.printed_forms.proofs.FitsExpressions.{AllFit, fits-asked, fits-beside, fits-name, fits-shown, fits-tested}
@@ -34,11 +36,11 @@ use Rattle.printed_forms.proofs.PrintableNodes.{printable-short}
 
 -- ---- names
 
-first-name : IsUtf8 (116 ∷ 49 ∷ [])
-first-name = IsUtf8-from_ascii (116 ∷ 49 ∷ []) (IsAscii-cons 116 (49 ∷ []) (omega arith) (IsAscii-cons 49 [] (omega arith) IsAscii-nil))
+sources-ascii : IsAscii source_prefix
+sources-ascii = IsAscii-cons 116 [] (omega arith) IsAscii-nil
 
-second-name : IsUtf8 (116 ∷ 50 ∷ [])
-second-name = IsUtf8-from_ascii (116 ∷ 50 ∷ []) (IsAscii-cons 116 (50 ∷ []) (omega arith) (IsAscii-cons 50 [] (omega arith) IsAscii-nil))
+first-name : IsUtf8 source_prefix
+first-name = IsUtf8-from_ascii source_prefix sources-ascii
 
 deeper-ascii : (prefix : List ℕ) → IsAscii prefix → IsAscii (deeper prefix)
 deeper-ascii prefix ascii = IsAscii-cons 99 prefix (omega arith) ascii
@@ -149,38 +151,89 @@ module _ (prefix : List ℕ) (ascii : IsAscii prefix) where
       fits-beside kinds.Boolean (spare (used_in condition) 0 forms) (shown_expr prefix forms condition)
       (spare-fits (used_in condition) 0 forms all) (fits-shown prefix ascii forms all condition w)
 
-over-fits : (q : QueryForm) → FitsQuery q → FitsFrom (over q)
-over-fits q p = ((p, first-name), tt)
+-- ---- sources
 
-module _ (prefix : List ℕ) (ascii : IsAscii prefix) (out : Naming) (named_so : IsAscii out.prefix) where
-  copied-fits : (count : ℕ) (q : QueryForm) → FitsQuery q → FitsCore (copied prefix out count q)
-  copied-fits count q p =
-      let list = listed-fits out named_so one (omega arith) (columns prefix count) (columns-fit prefix ascii count) in
-      (list.0, list.1, list.2, over-fits q p, tt, tt, tt)
+just-fits : (q : QueryForm) → FitsQuery q → FitsFrom (sources (just q))
+just-fits q p = ((p, first-name), tt)
 
-  projected-fits : (forms unused : List ExprForm) → AllFit forms → AllFit unused → (items : List Item) → WritableItems items
+then-fit : (more last : JoinForms) → FitsJoins more → FitsJoins last → FitsJoins (then_joins more last)
+then-fit f.no_joins last p q = q
+then-fit (f.a_join kind right on more) last p q = (p.0, p.1, then-fit more last p.2 q)
+then-fit (f.a_lateral stays right name more) last p q = (p.0, p.1, then-fit more last p.2 q)
+
+joined-fit : (chain : Chain) (last : JoinForms) → FitsFrom (sources chain) → FitsJoins last → FitsFrom (sources (joined_to chain last))
+joined-fit chain last p q = (p.0, then-fit chain.more last p.1 q)
+
+-- ---- a query in each of its forms
+
+record Fits (form : Framed) : Type 0 where
+  pub whole : (out : Naming) → IsAscii out.prefix → FitsQuery (form.whole out)
+  pub core : (distinct : Bool) (out : Naming) → IsAscii out.prefix → FitsCore (form.core distinct out)
+  pub block : FitsFrom (sources form.block)
+  pub test : FitsCondition form.test
+  pub from : FitsFrom (sources form.from)
+
+module _ (prefix : List ℕ) (ascii : IsAscii prefix) where
+  copied-fits : (count : ℕ) (chain : Chain) (test : ConditionForm) → FitsFrom (sources chain) → FitsCondition test → (distinct : Bool) (out : Naming) → IsAscii out.prefix
+      → FitsCore (copied prefix count chain test distinct out)
+  copied-fits count chain test p q distinct out to =
+      let list = listed-fits out to one (omega arith) (columns prefix count) (columns-fit prefix ascii count) in
+      (list.0, list.1, list.2, p, q, tt, tt)
+
+  whole-fits : (count : ℕ) (whole : Naming → QueryForm) → ((out : Naming) → IsAscii out.prefix → FitsQuery (whole out)) → Fits (a_whole prefix count whole)
+  whole-fits count whole fit =
+      let over = just-fits (whole (own prefix)) (fit (own prefix) ascii) in
+      record { whole = fit; core = copied-fits count (just (whole (own prefix))) f.no_condition over tt; block = over; test = tt; from = over }
+
+  apart-fits : (count : ℕ) (chained : Bool) (form : Framed) → Fits form → Fits (apart_unless prefix count chained form)
+  apart-fits count true form fit = fit
+  apart-fits count false form fit = whole-fits count form.whole fit.whole
+
+  select-fits : (core : Bool → Naming → CoreForm) → ((distinct : Bool) (out : Naming) → IsAscii out.prefix → FitsCore (core distinct out)) → Fits (a_select prefix core)
+  select-fits core fit =
+      let over = just-fits (alone (core false (own prefix))) (fit false (own prefix) ascii, (tt, tt)) in
+      record { whole = λ out to. (fit false out to, (tt, tt)); core = fit; block = over; test = tt; from = over }
+
+  block-fits : (count : ℕ) (followed : Bool) (chain : Chain) (test : ConditionForm) → FitsFrom (sources chain) → FitsCondition test
+      → Fits (a_block prefix count followed chain test)
+  block-fits count followed chain test p q =
+      let form = copied prefix count chain test in
+      let fit = copied-fits count chain test p q in
+      record {
+        whole = λ out to. (fit false out to, (tt, tt));
+        core = fit;
+        block = p;
+        test = q;
+        from = by followed (just (alone (form false (own prefix)))) (just-fits (alone (form false (own prefix))) (fit false (own prefix) ascii, (tt, tt)));
+      }
+    where
+      by : (b : Bool) (other : Chain) → FitsFrom (sources other) → FitsFrom (sources (cond b chain other))
+      by true other o = p
+      by false other o = o
+
+  projected-fits : (out : Naming) → IsAscii out.prefix → (forms unused : List ExprForm) → AllFit forms → AllFit unused → (items : List Item) → WritableItems items
       → FitsListed (projected prefix out forms unused items)
-  projected-fits forms unused all spared [] w =
-      listed-fits out named_so (beside kinds.Integer unused one) (fits-beside kinds.Integer unused one spared (omega arith)) [] tt
-  projected-fits forms unused all spared (item ∷ items) w =
-      listed-fits out named_so one (omega arith)
+  projected-fits out to forms unused all spared [] w =
+      listed-fits out to (beside kinds.Integer unused one) (fits-beside kinds.Integer unused one spared (omega arith)) [] tt
+  projected-fits out to forms unused all spared (item ∷ items) w =
+      listed-fits out to one (omega arith)
       (beside item.kind unused (shown_expr prefix forms item.expr) ∷ map (λ (item : Item). shown_expr prefix forms item.expr) items) (
         fits-beside item.kind unused (shown_expr prefix forms item.expr) spared (fits-shown prefix ascii forms all item.expr w.0),
         projections-fit prefix ascii forms all items w.1,
       )
 
-  groups-fit : (groups : List ℕ) (aggregates : List Aggr) (q : QueryForm) → WritableAggregates aggregates → FitsQuery q
-      → FitsCore (in_groups prefix out groups aggregates q)
-  groups-fit groups aggregates q w p =
+  groups-fit : (out : Naming) → IsAscii out.prefix → (groups : List ℕ) (aggregates : List Aggr) (chain : Chain) (test : ConditionForm) → WritableAggregates aggregates
+      → FitsFrom (sources chain) → FitsCondition test → FitsCore (in_groups prefix out groups aggregates chain test)
+  groups-fit out to groups aggregates chain test w p q =
       let below = listed-fits (own prefix) ascii one (omega arith) (grouped_columns prefix groups ++ arguments prefix aggregates)
       (append-fits (grouped_columns prefix groups) (arguments prefix aggregates) (grouped-fit prefix ascii groups) (arguments-fit prefix ascii aggregates w)) in
-      let list = listed-fits out named_so f.count_rows tt (columns prefix (length groups) ++ aggregates_from prefix (length groups + 1) aggregates)
+      let list = listed-fits out to f.count_rows tt (columns prefix (length groups) ++ aggregates_from prefix (length groups + 1) aggregates)
       (append-fits (columns prefix (length groups)) (aggregates_from prefix (length groups + 1) aggregates) (columns-fit prefix ascii (length groups))
       (aggregates-fit prefix ascii (length groups + 1) aggregates)) in (
         list.0,
         list.1,
         list.2,
-        over-fits (below_groups prefix groups aggregates q) ((below.0, below.1, below.2, over-fits q p, tt, tt, tt), (tt, tt)),
+        just-fits (below_groups prefix groups aggregates chain test) ((below.0, below.1, below.2, p, q, tt, tt), (tt, tt)),
         tt,
         own-columns-fit prefix ascii (range_with_len 1 (length groups)),
         tt,
@@ -190,131 +243,102 @@ module _ (prefix : List ℕ) (ascii : IsAscii prefix) (out : Naming) (named_so :
 
 module _ (tables : List TableNames) (all : AllByRecursion AreCharacters tables) where
   mutual
-    pub shown-fits : (prefix : List ℕ) → IsAscii prefix → (out : Naming) → IsAscii out.prefix → (q : Query) (outer : List (List Kind))
-        → WellFormed outer q → Printable q → FitsQuery (shown tables prefix out q)
-    shown-fits prefix ascii out to (Table id kinds) outer form p =
+    framed-fits : (prefix : List ℕ) → IsAscii prefix → (q : Query) (outer : List (List Kind)) → WellFormed outer q → Printable q → Fits (framed tables prefix q)
+    framed-fits prefix ascii (Table id kinds) outer form p =
         let table = named tables id all in
+        select-fits prefix ascii (of_table (names_of tables id)) (λ distinct out to.
         let list = listed-fits out to one (omega arith) (map (λ name. f.column (f.bare name)) (names_of tables id).columns)
         (table-columns-fit (names_of tables id).columns table.columns) in
-        ((list.0, list.1, list.2, (table.name, tt), tt, tt, tt), (tt, tt))
-    shown-fits prefix ascii out to Single outer form p =
+        (list.0, list.1, list.2, (table.name, tt), tt, tt, tt))
+    framed-fits prefix ascii Single outer form p =
+        select-fits prefix ascii (λ distinct out. selected distinct (listed out one []) f.no_from f.no_condition []) (λ distinct out to.
         let list = listed-fits out to one (omega arith) [] tt in
-        ((list.0, list.1, list.2, tt, tt, tt, tt), (tt, tt))
-    shown-fits prefix ascii out to (BaseOf input places label) outer form p = shown-fits prefix ascii out to input outer form.input p.1
-    shown-fits prefix ascii out to (FilterOf input condition _ subs) outer form p =
+        (list.0, list.1, list.2, tt, tt, tt, tt))
+    framed-fits prefix ascii (BaseOf input places label) outer form p =
+        whole-fits prefix ascii (width_of input) (framed tables prefix input).whole (framed-fits prefix ascii input outer form.input p.1).whole
+    framed-fits prefix ascii (FilterOf input condition _ subs) outer form p =
         let forms = sub_forms tables prefix subs in
-        let list = listed-fits out to one (omega arith) (columns prefix (width_of input)) (columns-fit prefix ascii (width_of input)) in (
-          (
-            list.0,
-            list.1,
-            list.2,
-            over-fits (shown tables prefix (own prefix) input) (shown-fits prefix ascii (own prefix) ascii input outer form.input p.2),
-            tested-fits prefix ascii forms (subs-fit prefix ascii subs (kinds_of input ∷ outer) form.subs p.3) condition p.1,
-            tt,
-            tt,
-          ),
-          (tt, tt),
-        )
-    shown-fits prefix ascii out to (ProjectOf input items _ subs) outer form p =
+        block-fits prefix ascii (width_of input) false (framed tables prefix input).from (f.condition (tested_by prefix forms condition))
+        (framed-fits prefix ascii input outer form.input p.2).from
+        (tested-fits prefix ascii forms (subs-fit prefix ascii subs (kinds_of input ∷ outer) form.subs p.3) condition p.1)
+    framed-fits prefix ascii (ProjectOf input items _ subs) outer form p =
         let forms = sub_forms tables prefix subs in
         let fit = subs-fit prefix ascii subs (kinds_of input ∷ outer) form.subs p.3 in
-        let list = projected-fits prefix ascii out to forms (spare (items_use items) 0 forms) fit (spare-fits (items_use items) 0 forms fit) items p.1 in (
-          (
-            list.0,
-            list.1,
-            list.2,
-            over-fits (shown tables prefix (own prefix) input) (shown-fits prefix ascii (own prefix) ascii input outer form.input p.2),
-            tt,
-            tt,
-            tt,
-          ),
-          (tt, tt),
-        )
-    shown-fits prefix ascii out to (JoinOf kind left right condition _ subs) outer form p =
+        let below = framed tables prefix input in
+        let given = framed-fits prefix ascii input outer form.input p.2 in
+        let unused = spare (items_use items) 0 forms in
+        select-fits prefix ascii (λ distinct out. selected distinct (projected prefix out forms unused items) (sources below.block) below.test []) (λ distinct out to.
+        let list = projected-fits prefix ascii out to forms unused fit (spare-fits (items_use items) 0 forms fit) items p.1 in
+        (list.0, list.1, list.2, given.block, given.test, tt, tt))
+    framed-fits prefix ascii (JoinOf kind left right condition _ subs) outer form p =
         let forms = sub_forms tables prefix subs in
-        let count = width_of left + width_of right in
-        let list = listed-fits out to one (omega arith) (columns prefix count) (columns-fit prefix ascii count) in (
+        let chained = is_chained kind in
+        let count = length (kinds_of left ++ kinds_of right) in
+        let first = apart_unless prefix (width_of left) chained (framed tables prefix left) in
+        let second = (framed tables prefix right).whole (naming prefix (width_of left + 1)) in
+        let last = f.a_join (joined kind) (f.subquery second (source_name (width_of left + 1))) (tested_by prefix forms condition) f.no_joins in
+        apart-fits prefix ascii count chained (a_block prefix count (is_any (width_of right)) (joined_to first.from last) f.no_condition)
+        (block-fits prefix ascii count (is_any (width_of right)) (joined_to first.from last) f.no_condition
+        (joined-fit first.from last (apart-fits prefix ascii (width_of left) chained (framed tables prefix left) (framed-fits prefix ascii left outer form.left p.2)).from (
           (
-            list.0,
-            list.1,
-            list.2,
-            (
-              (shown-fits prefix ascii (own prefix) ascii left outer form.left p.2, first-name),
-              (
-                (shown-fits prefix ascii (naming prefix (width_of left + 1)) ascii right outer form.right p.3, second-name),
-                tested-fits prefix ascii forms (subs-fit prefix ascii subs ((kinds_of left ++ kinds_of right) ∷ outer) form.subs p.4) condition p.1,
-                tt,
-              ),
-            ),
-            tt,
-            tt,
-            tt,
+            (framed-fits prefix ascii right outer form.right p.3).whole (naming prefix (width_of left + 1)) ascii,
+            fits-name source_prefix sources-ascii 0 (width_of left + 1),
           ),
-          (tt, tt),
-        )
-    shown-fits prefix ascii out to (ApplyOf kind left right) outer form p =
-        let count = width_of left + width_of right in
-        let list = listed-fits out to one (omega arith) (columns prefix count) (columns-fit prefix ascii count) in (
+          tested-fits prefix ascii forms (subs-fit prefix ascii subs ((kinds_of left ++ kinds_of right) ∷ outer) form.subs p.4) condition p.1,
+          tt,
+        )) tt)
+    framed-fits prefix ascii (ApplyOf kind left right) outer form p =
+        let first = framed tables prefix left in
+        let second = (framed tables (deeper prefix) right).whole (naming prefix (width_of left + 1)) in
+        let last = f.a_lateral (stays kind) second (source_name (width_of left + 1)) f.no_joins in
+        block-fits prefix ascii (length (kinds_of left ++ kinds_of right)) (is_any (width_of right)) (joined_to first.from last) f.no_condition
+        (joined-fit first.from last (framed-fits prefix ascii left outer form.left p.1).from (
+          (framed-fits (deeper prefix) (deeper-ascii prefix ascii) right (kinds_of left ∷ outer) form.right p.2).whole (naming prefix (width_of left + 1)) ascii,
+          fits-name source_prefix sources-ascii 0 (width_of left + 1),
+          tt,
+        )) tt
+    framed-fits prefix ascii (UnionOf every left right) outer form p =
+        let first = framed-fits prefix ascii left outer form.left_side p.1 in
+        let second = framed-fits prefix ascii right outer form.right_side p.2 in
+        whole-fits prefix ascii (width_of left) (framed tables prefix (UnionOf every left right)).whole
+        (λ out to. (first.core false out to, second.core false out to, tt, (tt, tt)))
+    framed-fits prefix ascii (IntersectOf every left right) outer form p =
+        let first = framed-fits prefix ascii left outer form.left_side p.1 in
+        let second = framed-fits prefix ascii right outer form.right_side p.2 in
+        whole-fits prefix ascii (width_of left) (framed tables prefix (IntersectOf every left right)).whole
+        (λ out to. (first.core false out to, second.core false out to, tt, (tt, tt)))
+    framed-fits prefix ascii (ExceptOf every left right) outer form p =
+        let first = framed-fits prefix ascii left outer form.left_side p.1 in
+        let second = framed-fits prefix ascii right outer form.right_side p.2 in
+        whole-fits prefix ascii (width_of left) (framed tables prefix (ExceptOf every left right)).whole
+        (λ out to. (first.core false out to, second.core false out to, tt, (tt, tt)))
+    framed-fits prefix ascii (DistinctOf input) outer form p =
+        let given = framed-fits prefix ascii input outer form p.1 in
+        whole-fits prefix ascii (width_of input) (framed tables prefix (DistinctOf input)).whole (λ out to. (given.core true out to, (tt, tt)))
+    framed-fits prefix ascii (AggregateOf input groups aggregates) outer form p =
+        let below = framed tables prefix input in
+        let given = framed-fits prefix ascii input outer form.input p.2 in
+        whole-fits prefix ascii (width_of (AggregateOf input groups aggregates)) (framed tables prefix (AggregateOf input groups aggregates)).whole
+        (λ out to. (groups-fit prefix ascii out to groups aggregates below.block below.test p.1 given.block given.test, (tt, tt)))
+    framed-fits prefix ascii (LimitOf input keys count) outer form p =
+        let given = framed-fits prefix ascii input outer form.input p.1 in
+        whole-fits prefix ascii (width_of input) (framed tables prefix (LimitOf input keys count)).whole (λ out to. (
+          given.core false out to,
           (
-            list.0,
-            list.1,
-            list.2,
-            (
-              (shown-fits prefix ascii (own prefix) ascii left outer form.left p.1, first-name),
-              (
-                shown-fits (deeper prefix) (deeper-ascii prefix ascii) (naming prefix (width_of left + 1)) ascii right (kinds_of left ∷ outer) form.right p.2,
-                second-name,
-                tt,
-              ),
-            ),
-            tt,
-            tt,
-            tt,
+            both-fit (map key_form keys) (map (λ number. record { position = number; descending = false }) (range_with_len 1 (width_of input)))
+                (keys-fit (width_of input) keys p.0 form.keys) (positions-fit 1 (width_of input) p.0),
+            form.bound,
           ),
-          (tt, tt),
-        )
-    shown-fits prefix ascii out to (UnionOf every left right) outer form p = (
-      copied-fits prefix ascii out to (width_of left) (shown tables prefix (own prefix) left) (shown-fits prefix ascii (own prefix) ascii left outer form.left_side p.1),
-      copied-fits prefix ascii out to (width_of right) (shown tables prefix (own prefix) right) (shown-fits prefix ascii (own prefix) ascii right outer form.right_side p.2),
-      tt,
-      (tt, tt),
-    )
-    shown-fits prefix ascii out to (IntersectOf every left right) outer form p = (
-      copied-fits prefix ascii out to (width_of left) (shown tables prefix (own prefix) left) (shown-fits prefix ascii (own prefix) ascii left outer form.left_side p.1),
-      copied-fits prefix ascii out to (width_of right) (shown tables prefix (own prefix) right) (shown-fits prefix ascii (own prefix) ascii right outer form.right_side p.2),
-      tt,
-      (tt, tt),
-    )
-    shown-fits prefix ascii out to (ExceptOf every left right) outer form p = (
-      copied-fits prefix ascii out to (width_of left) (shown tables prefix (own prefix) left) (shown-fits prefix ascii (own prefix) ascii left outer form.left_side p.1),
-      copied-fits prefix ascii out to (width_of right) (shown tables prefix (own prefix) right) (shown-fits prefix ascii (own prefix) ascii right outer form.right_side p.2),
-      tt,
-      (tt, tt),
-    )
-    shown-fits prefix ascii out to (DistinctOf input) outer form p =
-        let list = listed-fits out to one (omega arith) (columns prefix (width_of input)) (columns-fit prefix ascii (width_of input)) in
-        ((list.0, list.1, list.2, over-fits (shown tables prefix (own prefix) input) (shown-fits prefix ascii (own prefix) ascii input outer form p.1), tt, tt, tt), (tt, tt))
-    shown-fits prefix ascii out to (AggregateOf input groups aggregates) outer form p = (
-      groups-fit prefix ascii out to groups aggregates (shown tables prefix (own prefix) input) p.1
-          (shown-fits prefix ascii (own prefix) ascii input outer form.input p.2),
-      (tt, tt),
-    )
-    shown-fits prefix ascii out to (LimitOf input keys count) outer form p = (
-      copied-fits prefix ascii out to (width_of input) (shown tables prefix (own prefix) input) (shown-fits prefix ascii (own prefix) ascii input outer form.input p.1),
-      (
-        both-fit (map key_form keys) (map (λ number. record { position = number; descending = false }) (range_with_len 1 (width_of input)))
-            (keys-fit (width_of input) keys p.0 form.keys) (positions-fit 1 (width_of input) p.0),
-        form.bound,
-      ),
-    )
-    shown-fits prefix ascii out to (ProvOf input) outer form p = shown-fits prefix ascii out to input outer form p.1
+        ))
+    framed-fits prefix ascii (ProvOf input) outer form p =
+        whole-fits prefix ascii (width_of (ProvOf input)) (framed tables prefix input).whole (framed-fits prefix ascii input outer form p.1).whole
 
     subs-fit : (prefix : List ℕ) → IsAscii prefix → {m : _} (subs : Row_of-Sublink m) (scopes : List (List Kind)) → SubsForm scopes subs
         → PrintableSubs subs → AllFit (sub_forms tables prefix subs)
     subs-fit prefix ascii end_of-Sublink scopes form p = tt
     subs-fit prefix ascii (more_of-Sublink kind tested query subs) scopes form p = (
       fits-asked kind (tested_part prefix tested) (shown tables (deeper prefix) (own (deeper prefix)) query) (fits-tested prefix ascii tested p.0.0)
-          (shown-fits (deeper prefix) (deeper-ascii prefix ascii) (own (deeper prefix)) (deeper-ascii prefix ascii) query scopes form.query p.0.1),
+          ((framed-fits (deeper prefix) (deeper-ascii prefix ascii) query scopes form.query p.0.1).whole (own (deeper prefix)) (deeper-ascii prefix ascii)),
       subs-fit prefix ascii subs scopes form.others p.1,
     )
 
@@ -331,15 +355,6 @@ module _ (tables : List TableNames) (all : AllByRecursion AreCharacters tables) 
   pub answer-fits : (q : Query) (names : List (List ℕ)) (keys : List Key) → WellFormed [] q → Printable q
       → AllByRecursion IsUtf8 names → KeysIn (width_of q) keys → FitsQuery (shown_answer tables q names keys)
   answer-fits q names keys form p named_so within =
-      let list = called-fits names named_so in (
-        (
-          list.0,
-          list.1,
-          list.2,
-          over-fits (shown tables outermost (own outermost) q) (shown-fits outermost outermost-ascii (own outermost) outermost-ascii q [] form p),
-          tt,
-          tt,
-          tt,
-        ),
-        (keys-fit (width_of q) keys (printable-short q p) within, tt),
-      )
+      let list = called-fits names named_so in
+      let given = framed-fits outermost outermost-ascii q [] form p in
+      ((list.0, list.1, list.2, given.block, given.test, tt, tt), (keys-fit (width_of q) keys (printable-short q p) within, tt))

@@ -11,7 +11,7 @@ ghost use Rattle.tree_texts.specs.Fits.{FitsQuery};
 ghost use Rattle.tree_texts.specs.FormPlans as plan;
 ghost use Rattle.tree_texts.specs.Forms.{QueryForm};
 ghost use Rattle.laid_texts.specs.Lines.{EndsScript};
-ghost use Rattle.query_texts.specs.declared.tables.TableNames.{TableNames};
+ghost use Rattle.clause_texts.specs.declared.tables.TableNames.{TableNames};
 ghost use Rattle.query_forms.specs.ShownQueries.{shown_answer};
 ghost use Rattle.printed_forms.specs.EndedTexts.{IsTextOfForm};
 ghost use Rattle.printed_forms.specs.Printable.{AreCharacters, Printable};

@@ -5,7 +5,6 @@ use Rattle.perm_values.specs.declared.kind.Kind.TheVariants as kinds
 use Rattle.bag_algebra.specs.Kinds.{kind_in}
 use Rattle.bag_algebra.specs.WellFormed.{AggregatesForm, HasKind, PlacesIn, aggr_form}
 use Rattle.bag_algebra.specs.declared.expr.Expr.{Expr}
-use Rattle.bag_algebra.specs.declared.expr.Expr.TheVariants.{Col}
 use Rattle.bag_algebra.specs.declared.expr.Item.{Item}
 use Rattle.bag_algebra.specs.declared.query.AggFn.{AggFn}
 use Rattle.bag_algebra.specs.declared.query.AggFn.TheVariants as agg
@@ -19,7 +18,7 @@ use Rattle.name_meaning.specs.Trees.{item_of, part_of}
 use Rattle.name_meaning.specs.declared.scope.Scope.{Scope}
 use Rattle.tree_texts.specs.Forms.{ExprForm}
 use Rattle.tree_texts.specs.Trees.{AreItems, IsExpr, IsItem, an_item_tree, no_item_trees}
-use Rattle.query_texts.specs.Names.{naming}
+use Rattle.clause_texts.specs.Names.{naming}
 use Rattle.query_forms.specs.ShownExpressions.{shown_expr}
 use Rattle.query_forms.specs.ShownQueries as writing
 use Rattle.query_forms.specs.ShownQueries.{listed, named_from, one}
@@ -84,32 +83,30 @@ module _ (c : Contents) (has_from : Bool) (scope : Scope) (here : Surroundings) 
 
   -- ---- columns and arguments
 
-  module _ (depth : ℕ) (own : List Kind) (outer : List (List Kind)) (unread : List ℕ) (finds : Finds (marks depth) (own ∷ outer) (0 ∷ unread) here.scopes) (outside : here.argument ≡ false) where
-    pub grouped-read : (groups : List ℕ) → PlacesIn (length own) groups → FormsRead (writing.grouped_columns (marks depth) groups) (printing.grouped own groups)
+  module _ (depth : ℕ) (own : List Kind) (front : ℕ) (outer : List (List Kind)) (unread : List ℕ) (finds : Finds (marks depth) (own ∷ outer) (front ∷ unread) here.scopes) (outside : here.argument ≡ false) where
+    pub grouped-read : (groups : List ℕ) → PlacesIn (length own) groups → FormsRead (writing.grouped_columns (marks depth) groups) (printing.grouped front own groups)
     grouped-read [] within = tt
-    grouped-read (place ∷ groups) within =
-        let none : 0 + place ≡ place = omega arith in (
-          λ tree d. (
-            plain-tree c tt d,
-            subst (λ p. IsRead ((part_of c tree).means here) (kind_in own place) (λ n. Col 0 p) []) none
-                (column-read c here (marks depth) (own ∷ outer) (0 ∷ unread) finds outside 0 place (kind_in own place) (kind_there own place (within 0 place (omega arith))) d),
-          ),
-          grouped-read groups (λ k e h. within (suc k) e (omega (arith, h))),
-        )
+    grouped-read (place ∷ groups) within = (
+      λ tree d. (
+        plain-tree c tt d,
+        column-read c here (marks depth) (own ∷ outer) (front ∷ unread) finds outside 0 place (kind_in own place) (kind_there own place (within 0 place (omega arith))) d,
+      ),
+      grouped-read groups (λ k e h. within (suc k) e (omega (arith, h))),
+    )
 
     argument-read : (part : Expr) (kind : Kind) → HasKind (own ∷ outer) [] part kind → Writable part → (tree : ExprTree) → IsExpr (shown_expr (marks depth) [] part) tree
-        → PlainTree c tree × IsRead ((part_of c tree).means here) (printing.kind_of (own ∷ outer) part) (λ n. printed_expr (0 ∷ unread) 0 part) []
+        → PlainTree c tree × IsRead ((part_of c tree).means here) (printing.kind_of (own ∷ outer) part) (λ n. printed_expr (front ∷ unread) 0 part) []
     argument-read part kind h w tree d = (
       plain-tree c (plain-shown (marks depth) [] tt part) d,
-      subst (λ k. IsRead ((part_of c tree).means here) k (λ n. printed_expr (0 ∷ unread) 0 part) []) (sym (kind-is (own ∷ outer) part kind h))
-          (subst (λ m. IsRead ((part_of c tree).means here) kind m []) (λ i n. printed-anywhere (own ∷ outer) (0 ∷ unread) part kind h n 0 i)
-          (subst (IsRead ((part_of c tree).means here) kind (λ n. printed_expr (0 ∷ unread) n part)) (none_taken (asked_in part) (asked-below (own ∷ outer) [] part kind h))
-          (expr-read c (marks depth) [] [] (own ∷ outer) [] (0 ∷ unread) here finds (sublinks-found c here [] [] [] tt) outside part kind h w d))),
+      subst (λ k. IsRead ((part_of c tree).means here) k (λ n. printed_expr (front ∷ unread) 0 part) []) (sym (kind-is (own ∷ outer) part kind h))
+          (subst (λ m. IsRead ((part_of c tree).means here) kind m []) (λ i n. printed-anywhere (own ∷ outer) (front ∷ unread) part kind h n 0 i)
+          (subst (IsRead ((part_of c tree).means here) kind (λ n. printed_expr (front ∷ unread) n part)) (none_taken (asked_in part) (asked-below (own ∷ outer) [] part kind h))
+          (expr-read c (marks depth) [] [] (own ∷ outer) [] (front ∷ unread) here finds (sublinks-found c here [] [] [] tt) outside part kind h w d))),
     )
 
     by_function : (function : AggFn) (part : Option Expr) (kind : Kind) → aggr_form function part (own ∷ outer) kind → WritableOption part → (tree : ExprTree)
         → IsExpr (writing.argument (marks depth) part) tree
-        → PlainTree c tree × IsRead ((part_of c tree).means here) (printing.argument (own ∷ outer) (0 ∷ unread) part).kind (λ n. (printing.argument (own ∷ outer) (0 ∷ unread) part).expr) []
+        → PlainTree c tree × IsRead ((part_of c tree).means here) (printing.argument (own ∷ outer) (front ∷ unread) part).kind (λ n. (printing.argument (own ∷ outer) (front ∷ unread) part).expr) []
     by_function function None kind form w tree d = (plain-tree c tt d, integer-read c here 1 d)
     by_function agg.CountRows (Some part) kind form w tree d = absurd form
     by_function agg.Count (Some part) kind form w tree d = argument-read part form.argument.shared form.argument.parts w tree d
@@ -119,7 +116,7 @@ module _ (c : Contents) (has_from : Bool) (scope : Scope) (here : Surroundings) 
     by_function agg.Max (Some part) kind form w tree d = argument-read part kind form.0 w tree d
 
     pub arguments-read : (aggregates : List Aggr) → AggregatesForm (own ∷ outer) aggregates → WritableAggregates aggregates
-        → FormsRead (writing.arguments (marks depth) aggregates) (printing.arguments (own ∷ outer) (0 ∷ unread) aggregates)
+        → FormsRead (writing.arguments (marks depth) aggregates) (printing.arguments (own ∷ outer) (front ∷ unread) aggregates)
     arguments-read [] form w = tt
     arguments-read (aggregate ∷ aggregates) form w = (
       λ tree d. by_function aggregate.function aggregate.argument aggregate.kind (form 0 aggregate (omega arith)) w.0 tree d,

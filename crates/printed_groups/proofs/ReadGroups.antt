@@ -2,7 +2,7 @@
 use Rattle.std.proofs.Common.{◌≡◌, ℕ, zero, suc, ◌+◌, ◌<◌, ◌≤◌, ◌^◌, Bool, true, false, cond, not, ◌||◌, List, [], ◌∷◌, ◌++◌, flat_map, filter_map, length, map, Option, Some, None, refl, sym, ap, subst, ◌∙◌, arith}
 use Rattle.std.specs.List.{cons_option, list_any, position, prefix_len, range_with_len}
 use Rattle.std.specs.Option.{option_map_or}
-use Rattle.std.specs.Prelude.{codes, nat_eq, nat_lt, slice_get}
+use Rattle.std.specs.Prelude.{nat_eq, nat_lt, slice_get}
 use Rattle.std.specs.Fmt.{decimal}
 use Rattle.std.proofs.lemmas.Bool.Decides.{nat_tests}
 use Rattle.std.proofs.lemmas.List.{length-map}
@@ -37,80 +37,71 @@ use Rattle.name_meaning.specs.declared.rule.Rule.TheVariants as rule
 use Rattle.name_meaning.specs.declared.scope.Found.TheVariants.{Absent as absent, Ambiguous as ambiguous, Column as found}
 use Rattle.name_meaning.specs.declared.scope.Scope.{Scope}
 use Rattle.tree_texts.specs.Forms as f
-use Rattle.tree_texts.specs.Forms.{ColumnForm, ExprForm, QueryForm}
-use Rattle.tree_texts.specs.Trees.{AreColumns, AreItems, IsCore, IsExpr, IsItem, a_column_tree, an_item_tree, bare_tree, count_distinct_tree, count_rows_tree, count_tree, folded_tree, item_tree, no_column_trees, no_item_trees}
-use Rattle.query_texts.specs.Names.{naming, own as own_naming}
+use Rattle.tree_texts.specs.Forms.{ColumnForm, ConditionForm, ExprForm}
+use Rattle.tree_texts.specs.Trees.{AreColumns, AreItems, IsCore, IsExpr, IsItem, IsQuery, a_column_tree, an_item_tree, bare_tree, count_distinct_tree, count_rows_tree, count_tree, folded_tree, item_tree, no_column_trees, no_item_trees}
+use Rattle.clause_texts.specs.Names.{naming, own as own_naming, source_prefix}
 use Rattle.query_forms.specs.ShownQueries as writing
-use Rattle.query_forms.specs.ShownQueries.{Listed, below_groups, listed, named_from, one, over, own_column, own_columns, selected}
+use Rattle.query_forms.specs.ShownQueries.{Chain, Listed, below_groups, listed, named_from, one, own_column, own_columns, selected}
 use Rattle.printed_queries.specs.Printed as printing
 use Rattle.printed_queries.specs.Printed.{column, columns_from, counted, or_counted, or_unread, unread_item}
 use Rattle.printed_queries.specs.Writable.{WritableAggregates}
 use Rattle.printed_queries.proofs.ShownRows.{shown_kinds}
 use Rattle.printed_expressions.specs.Scopes.{Few, ScopesAre, marks}
+use Rattle.printed_groups.proofs.GroupedCores.{grouped_core-read, grouped_scope, opened-groups}
 use Rattle.printed_expressions.proofs.KindsOf.{kind-is}
-use Rattle.printed_expressions.proofs.ReadLeaves.{local-read}
-use Rattle.printed_expressions.proofs.ReadScopes.{finds, meant-bare, meant-own}
+use Rattle.printed_groups.proofs.ReadAggregates.{ColumnsRead, FitsArgument, Fitting, GroupedList, aggregates-read, behind_groups, counts, folds, grouped_item-read, groups-read, named_columns, no_groups-read, rows-read}
+use Rattle.printed_groups.specs.Groups.{kinds_of_aggrs}
+use Rattle.printed_groups.proofs.ReadArguments.{arguments-read, forms-append, grouped-read, listed-read}
+use Rattle.printed_cores.proofs.ReadBlocks.{BlockRead, select-read}
 use Rattle.printed_cores.specs.Queries.{QueryRead}
-use Rattle.printed_cores.proofs.OpenedCores.{opened-plain}
-use Rattle.printed_cores.proofs.ReadArms.{InputRead}
-use Rattle.printed_cores.proofs.ReadCores.{core-read}
 use Rattle.printed_cores.proofs.ReadFroms.{item_of_query, listed_names, scope-over, subquery-read}
 use Rattle.printed_cores.proofs.ReadItems.{kinds_of_items}
+use Rattle.printed_expressions.proofs.ReadLeaves.{local-read}
 use Rattle.printed_cores.proofs.ReadLists.{item_at, part-is}
 use Rattle.printed_cores.proofs.ReadQueries.{CoreRead, alone-read}
-use Rattle.printed_groups.specs.Groups.{kinds_of_aggrs}
-use Rattle.printed_groups.proofs.GroupedCores.{grouped_core-read, grouped_scope, opened-groups}
-use Rattle.printed_groups.proofs.ReadAggregates.{ColumnsRead, FitsArgument, Fitting, GroupedList, aggregates-read, behind_groups, counts, folds, grouped_item-read, groups-read, named_columns, no_groups-read, rows-read}
-use Rattle.printed_groups.proofs.ReadArguments.{arguments-read, forms-append, grouped-read, listed-read}
+use Rattle.printed_expressions.proofs.ReadScopes.{finds, meant-bare, meant-own}
 
 -- ---- the query below
 
 -- the grouped columns, then the arguments
-abbrev pub items_below : List Kind → List (List Kind) → List ℕ → List ℕ → List Aggr → List Item
-items_below own scopes unread groups aggregates = printing.grouped own groups ++ printing.arguments (own ∷ scopes) (0 ∷ unread) aggregates
+abbrev pub items_below : List Kind → ℕ → List (List Kind) → List ℕ → List ℕ → List Aggr → List Item
+items_below own front scopes unread groups aggregates = printing.grouped front own groups ++ printing.arguments (own ∷ scopes) (front ∷ unread) aggregates
 
 abbrev pub item_over : ℕ → List Kind → List ScopeItem
-item_over depth below = item_of_query (codes "t1") (listed_names (suc depth) 1 below) (shown_kinds below) ∷ []
+item_over depth below = item_of_query source_prefix (listed_names (suc depth) 1 below) (shown_kinds below) ∷ []
 
-module _ (c : Contents) (depth : ℕ) (scopes : List (List Kind)) (unread : List ℕ) (around : Around) (own : List Kind) (bound : Few own)
-    (outer : ScopesAre depth scopes unread around.outer) (form : QueryForm) (q : Query) (input : InputRead c depth around.outer own form q)
+module _ (c : Contents) (depth : ℕ) (scopes : List (List Kind)) (unread : List ℕ) (above : List Scope) (own : List Kind) (front : ℕ)
+    (outer : ScopesAre depth scopes unread above) (chain : Chain) (test : ConditionForm) (q : Query) (block : BlockRead c (suc depth) above own front chain test q)
     (groups : List ℕ) (aggregates : List Aggr) (within : PlacesIn (length own) groups) (formed : AggregatesForm (own ∷ scopes) aggregates)
     (writable : WritableAggregates aggregates) where
   abbrev items : List Item
-  items = items_below own scopes unread groups aggregates
-
-  abbrev own_items : List ScopeItem
-  own_items = item_over depth own
+  items = items_below own front scopes unread groups aggregates
 
   core_below-read : (tree : Core)
-      → IsCore (selected false (listed (own_naming (marks (suc depth))) one (writing.grouped_columns (marks (suc depth)) groups ++ writing.arguments (marks (suc depth)) aggregates)) (over form) f.no_condition []) tree
-      → CoreRead c (in_from around.outer) (listed_names (suc depth) 1 (kinds_of_items items)) (shown_kinds (kinds_of_items items)) (Project q (or_unread unread_item items) []) tree
+      → IsCore (selected false (listed (own_naming (marks (suc depth))) one (writing.grouped_columns (marks (suc depth)) groups ++ writing.arguments (marks (suc depth)) aggregates)) (writing.sources chain) test []) tree
+      → CoreRead c (in_from above) (listed_names (suc depth) 1 (kinds_of_items items)) (shown_kinds (kinds_of_items items)) (Project q (or_unread unread_item items) []) tree
   core_below-read tree d =
-      let o = opened-plain c d in
-      let has = has_some (map (from_of c) o.sources) in
-      let scope = scope_of own_items in
-      let here = in_clause scope around.outer true in
-      let found = finds (suc depth) (own ∷ scopes) (0 ∷ unread) (scope ∷ around.outer) (scope-over (suc depth) (codes "t1") own bound, outer) in
-      let from = subquery-read c around.outer (listed_names (suc depth) 1 own) (shown_kinds own) q o.from input in
-      let forms = forms-append c has scope here (writing.grouped_columns (marks (suc depth)) groups) (writing.arguments (marks (suc depth)) aggregates)
-      (printing.grouped own groups) (printing.arguments (own ∷ scopes) (0 ∷ unread) aggregates)
-      (grouped-read c has scope here (suc depth) own scopes unread found refl groups within)
-      (arguments-read c has scope here (suc depth) own scopes unread found refl aggregates formed writable) in
-      let list = listed-read c has scope here (writing.grouped_columns (marks (suc depth)) groups ++ writing.arguments (marks (suc depth)) aggregates) items forms (suc depth) 1 o.first o.rest in (
-        o.unasked,
-        subst (λ m. QueryRead m (listed_names (suc depth) 1 (kinds_of_items items)) (shown_kinds (kinds_of_items items)) (Project q (or_unread unread_item items) [])) (sym (o.means (in_from around.outer)))
-            (core-read (in_from around.outer) (from_all around.outer (map (from_of c) o.sources)) has false (map (item_of c) (o.item ∷ o.items)) None own_items q from None
-            (listed_names (suc depth) 1 (kinds_of_items items)) (shown_kinds (kinds_of_items items)) (λ n. or_unread unread_item items) [] tt list),
-      )
+      let scope = scope_of block.items in
+      let here = in_clause scope above true in
+      let found = finds (suc depth) (own ∷ scopes) (front ∷ unread) (scope ∷ above) (block.scope, outer) in
+      let forms = writing.grouped_columns (marks (suc depth)) groups ++ writing.arguments (marks (suc depth)) aggregates in
+      select-read c (suc depth) (in_from above) own front chain test q block false (listed (own_naming (marks (suc depth))) one forms)
+      (listed_names (suc depth) 1 (kinds_of_items items)) (shown_kinds (kinds_of_items items)) (or_unread unread_item items) []
+      (λ has item more e es. record {
+        made = λ n. or_unread unread_item items;
+        read = listed-read c has scope here forms items
+            (forms-append c has scope here (writing.grouped_columns (marks (suc depth)) groups) (writing.arguments (marks (suc depth)) aggregates)
+            (printing.grouped front own groups) (printing.arguments (own ∷ scopes) (front ∷ unread) aggregates)
+            (grouped-read c has scope here (suc depth) own front scopes unread found refl groups within)
+            (arguments-read c has scope here (suc depth) own front scopes unread found refl aggregates formed writable)) (suc depth) 1 e es;
+        whole = refl;
+      }) tree d
 
-  pub below-read : InputRead c depth around.outer (kinds_of_items items) (below_groups (marks (suc depth)) groups aggregates form) (Project q (or_unread unread_item items) [])
-  below-read tree d = alone-read c (in_from around.outer) _ (listed_names (suc depth) 1 (kinds_of_items items)) (shown_kinds (kinds_of_items items)) (Project q (or_unread unread_item items) []) core_below-read tree d
+  pub below-read : (tree : QueryTree) → IsQuery (below_groups (marks (suc depth)) groups aggregates chain test) tree
+      → QueryRead ((query_of c tree).means (in_from above)) (listed_names (suc depth) 1 (kinds_of_items items)) (shown_kinds (kinds_of_items items)) (Project q (or_unread unread_item items) [])
+  below-read tree d = alone-read c (in_from above) _ (listed_names (suc depth) 1 (kinds_of_items items)) (shown_kinds (kinds_of_items items)) (Project q (or_unread unread_item items) []) core_below-read tree d
 
 -- ---- its columns
-
-kinds-grouped : (own : List Kind) (groups : List ℕ) → kinds_of_items (printing.grouped own groups) ≡ kinds_in own groups
-kinds-grouped own [] = refl
-kinds-grouped own (place ∷ groups) = ap (λ more. kind_in own place ∷ more) (kinds-grouped own groups)
 
 get-behind : (front more : List Kind) (i : ℕ) → slice_get (front ++ more) (length front + i) ≡ slice_get more i
 get-behind [] more i = let none : 0 + i ≡ i = omega arith in ap (slice_get more) none
@@ -187,7 +178,7 @@ module _ (c : Contents) (depth : ℕ) (outer : List Scope) (below : List Kind) (
       → look_up 0 (scope_of items_over ∷ more) reference ≡ found (record { level = 0; place = Some place; kind = kind })
   found-below more place kind e reference none named =
       let here : 0 + place ≡ place = omega arith in
-      finds (suc depth) (below ∷ []) (0 ∷ []) (scope_of items_over ∷ more) (scope-over (suc depth) (codes "t1") below bound, tt) 0 place kind e reference none named
+      finds (suc depth) (below ∷ []) (0 ∷ []) (scope_of items_over ∷ more) (scope-over (suc depth) source_prefix below bound, tt) 0 place kind e reference none named
       ∙ ap (λ m. found (record { level = 0; place = Some m; kind = kind })) here
 
   pub arguments-found : ColumnsRead c (in_argument (in_clause over_groups outer true)) (suc depth) below (length below)
@@ -199,7 +190,7 @@ module _ (c : Contents) (depth : ℕ) (outer : List Scope) (below : List Kind) (
       → look_up 0 (over_groups ∷ outer) reference ≡ found (record { level = 0; place = Some place; kind = kind })
   found-grouped place kind low e reference none named =
       let name = marks (suc depth) ++ decimal (place + 1) in
-      let o = meant-own (suc depth) 0 below (scope_of items_over) (scope-over (suc depth) (codes "t1") below bound) place kind e in
+      let o = meant-own (suc depth) 0 below (scope_of items_over) (scope-over (suc depth) source_prefix below bound) place kind e in
       ap (λ columns. option_map_or (found_among 0 over_groups) columns (look_up (suc 0) outer reference)) (meant-bare reference name over_groups none named)
       ∙ ap (λ columns. option_map_or (found_among 0 over_groups) (if_some columns) (look_up (suc 0) outer reference)) o.is
       ∙ (λ i. found (record { level = 0; place = place-found n place low i; kind = o.kind_is i }))
@@ -305,56 +296,56 @@ module _ (c : Contents) (has_from : Bool) (depth : ℕ) (outer : List Scope) (be
 
 -- ---- the whole
 
-long-below : (own : List Kind) (scopes : List (List Kind)) (unread groups : List ℕ) (aggregates : List Aggr)
-    → length (kinds_of_items (items_below own scopes unread groups aggregates)) ≡ length groups + length aggregates
-long-below own scopes unread [] [] = refl
-long-below own scopes unread [] (aggregate ∷ aggregates) =
-    let on : suc (0 + length aggregates) ≡ 0 + suc (length aggregates) = omega arith in ap suc (long-below own scopes unread [] aggregates) ∙ on
-long-below own scopes unread (place ∷ groups) aggregates =
+long-below : (own : List Kind) (front : ℕ) (scopes : List (List Kind)) (unread groups : List ℕ) (aggregates : List Aggr)
+    → length (kinds_of_items (items_below own front scopes unread groups aggregates)) ≡ length groups + length aggregates
+long-below own front scopes unread [] [] = refl
+long-below own front scopes unread [] (aggregate ∷ aggregates) =
+    let on : suc (0 + length aggregates) ≡ 0 + suc (length aggregates) = omega arith in ap suc (long-below own front scopes unread [] aggregates) ∙ on
+long-below own front scopes unread (place ∷ groups) aggregates =
     let on : suc (length groups + length aggregates) ≡ suc (length groups) + length aggregates = omega arith in
-    ap suc (long-below own scopes unread groups aggregates) ∙ on
+    ap suc (long-below own front scopes unread groups aggregates) ∙ on
 
-kinds-below : (own : List Kind) (scopes : List (List Kind)) (unread groups : List ℕ) (aggregates : List Aggr)
-    → kinds_of_items (items_below own scopes unread groups aggregates) ≡ kinds_in own groups ++ kinds_of_items (printing.arguments (own ∷ scopes) (0 ∷ unread) aggregates)
-kinds-below own scopes unread [] aggregates = refl
-kinds-below own scopes unread (place ∷ groups) aggregates = ap (λ more. kind_in own place ∷ more) (kinds-below own scopes unread groups aggregates)
+kinds-below : (own : List Kind) (front : ℕ) (scopes : List (List Kind)) (unread groups : List ℕ) (aggregates : List Aggr)
+    → kinds_of_items (items_below own front scopes unread groups aggregates) ≡ kinds_in own groups ++ kinds_of_items (printing.arguments (own ∷ scopes) (front ∷ unread) aggregates)
+kinds-below own front scopes unread [] aggregates = refl
+kinds-below own front scopes unread (place ∷ groups) aggregates = ap (λ more. kind_in own place ∷ more) (kinds-below own front scopes unread groups aggregates)
 
-pub in_groups-read : (c : Contents) (depth : ℕ) (outer : List (List Kind)) (unread : List ℕ) (around : Around) (own : List Kind) → Few own → ScopesAre depth outer unread around.outer
-    → (below : QueryForm) (q : Query) → InputRead c depth around.outer own below q → (groups : List ℕ) (aggregates : List Aggr) → PlacesIn (length own) groups
+pub in_groups-read : (c : Contents) (depth : ℕ) (outer : List (List Kind)) (unread : List ℕ) (around : Around) (own : List Kind) (front : ℕ) → ScopesAre depth outer unread around.outer
+    → (chain : Chain) (test : ConditionForm) (q : Query) → BlockRead c (suc depth) around.outer own front chain test q → (groups : List ℕ) (aggregates : List Aggr) → PlacesIn (length own) groups
     → AggregatesForm (own ∷ outer) aggregates → WritableAggregates aggregates → 1 + (length groups + length aggregates) < 2 ^ 64 → (out first : ℕ) (tree : Core)
-    → IsCore (writing.in_groups (marks (suc depth)) (naming (marks out) first) groups aggregates below) tree
+    → IsCore (writing.in_groups (marks (suc depth)) (naming (marks out) first) groups aggregates chain test) tree
     → CoreRead c around (listed_names out first (kinds_in own groups ++ kinds_of_aggrs aggregates)) (shown_kinds (kinds_in own groups ++ kinds_of_aggrs aggregates))
-    (printing.in_groups (own ∷ outer) (0 ∷ unread) groups aggregates own q) tree
-in_groups-read c depth outer unread around own few s below q input groups aggregates within formed writable small out first tree d =
+    (printing.in_groups (own ∷ outer) (front ∷ unread) front groups aggregates own q) tree
+in_groups-read c depth outer unread around own front s chain test q block groups aggregates within formed writable small out first tree d =
     let o = opened-groups c d in
     let has = has_some (map (from_of c) o.sources) in
-    let items = items_below own outer unread groups aggregates in
+    let items = items_below own front outer unread groups aggregates in
     let all = kinds_of_items items in
     let inner = Project q (or_unread unread_item items) [] in
-    let long = long-below own outer unread groups aggregates in
+    let long = long-below own front outer unread groups aggregates in
     let bound : Few all = omega (arith, long, small) in
     let enough : length groups ≤ length all = omega (arith, long) in
-    let split = kinds-below own outer unread groups aggregates in
+    let split = kinds-below own front outer unread groups aggregates in
     let given = kinds_in own groups ++ kinds_of_aggrs aggregates in
     let numbered = or_counted groups (printing.aggregates_from (length groups) aggregates) in
     let as_wide : length (kinds_in own groups) ≡ length groups = length-map groups (kind_in own) in
     let from = subquery-read c around.outer (listed_names (suc depth) 1 all) (shown_kinds all) inner o.from
-    (below-read c depth outer unread around own few s below q input groups aggregates within formed writable) in
-    let fits = all-fitting (own ∷ outer) (0 ∷ unread) all (length groups) aggregates formed
+    (below-read c depth outer unread around.outer own front s chain test q block groups aggregates within formed writable) in
+    let fits = all-fitting (own ∷ outer) (front ∷ unread) all (length groups) aggregates formed
     (λ i kind e. ap (λ ks. slice_get ks (length groups + i)) split
-    ∙ ap (λ m. slice_get (kinds_in own groups ++ kinds_of_items (printing.arguments (own ∷ outer) (0 ∷ unread) aggregates)) (m + i)) (sym as_wide)
-    ∙ get-behind (kinds_in own groups) (kinds_of_items (printing.arguments (own ∷ outer) (0 ∷ unread) aggregates)) i ∙ e) in
+    ∙ ap (λ m. slice_get (kinds_in own groups ++ kinds_of_items (printing.arguments (own ∷ outer) (front ∷ unread) aggregates)) (m + i)) (sym as_wide)
+    ∙ get-behind (kinds_in own groups) (kinds_of_items (printing.arguments (own ∷ outer) (front ∷ unread) aggregates)) i ∙ e) in
     let refs = references-read c depth around.outer all bound (length groups) enough 0 (length groups) (omega (arith, enough)) o.grouped in
     let w = whole-list c has depth around.outer all bound own groups aggregates enough
     (λ i kind e. let none : 0 + i ≡ i = omega arith in
     ap (λ ks. slice_get ks (0 + i)) split
-    ∙ ap (slice_get (kinds_in own groups ++ kinds_of_items (printing.arguments (own ∷ outer) (0 ∷ unread) aggregates))) none
-    ∙ slice_get-longer (kinds_in own groups) (kinds_of_items (printing.arguments (own ∷ outer) (0 ∷ unread) aggregates)) i kind e) fits out first o.first o.rest in
+    ∙ ap (slice_get (kinds_in own groups ++ kinds_of_items (printing.arguments (own ∷ outer) (front ∷ unread) aggregates))) none
+    ∙ slice_get-longer (kinds_in own groups) (kinds_of_items (printing.arguments (own ∷ outer) (front ∷ unread) aggregates)) i kind e) fits out first o.first o.rest in
     let core = grouped_core-read around (from_all around.outer (map (from_of c) o.sources)) has (map (item_of c) (o.item ∷ o.items)) o.columns (item_over depth all) inner from
     (range_with_len 0 (length groups)) refs.0 refs.1 (now-grouped c has depth around.outer all bound groups aggregates out first o.grouped o.items o.first)
     (listed_names out first given) (shown_kinds given) w.made numbered w.list in (
       o.unasked,
-      subst (λ m. QueryRead m (listed_names out first given) (shown_kinds given) (printing.in_groups (own ∷ outer) (0 ∷ unread) groups aggregates own q)) (sym (o.means around))
+      subst (λ m. QueryRead m (listed_names out first given) (shown_kinds given) (printing.in_groups (own ∷ outer) (front ∷ unread) front groups aggregates own q)) (sym (o.means around))
           (subst (λ list. QueryRead (core_seen around None (from_all around.outer (map (from_of c) o.sources)) has false (map (item_of c) (o.item ∷ o.items)) None o.columns None)
           (listed_names out first given) (shown_kinds given) (Project (Aggregate inner (range_with_len 0 (length groups)) numbered) list [])) w.first core),
     )

@@ -7,8 +7,8 @@ ghost use Rattle.bag_algebra.specs.declared.query.Query.{Query};
 ghost use Rattle.perm_catalog.specs.Contents.{Contents};
 ghost use Rattle.name_meaning.specs.Froms.{in_from};
 ghost use Rattle.name_meaning.specs.Meanings.{Around};
-ghost use Rattle.tree_texts.specs.Forms.{QueryForm};
-ghost use Rattle.query_texts.specs.Names.{naming};
+ghost use Rattle.tree_texts.specs.Forms.{QueryForm, no_condition};
+ghost use Rattle.clause_texts.specs.Names.{naming};
 ghost use Rattle.query_forms.specs.ShownQueries as writing;
 ghost use Rattle.printed_queries.specs.Printed as printing;
 ghost use Rattle.printed_queries.specs.Writable.{WritableAggregates};
@@ -32,7 +32,8 @@ pub fn printed_groups_are_read_back()
         → CoreFormRead c around
         (numbered_names out first (kinds_of_groups (kind ∷ more) (group ∷ others) aggregates))
         (kinds_of_groups (kind ∷ more) (group ∷ others) aggregates)
-        (writing.in_groups (marks (suc depth)) (naming (marks out) first) (group ∷ others) aggregates form)
-        (printing.in_groups ((kind ∷ more) ∷ scopes) (0 ∷ unread) (group ∷ others) aggregates
+        (writing.in_groups (marks (suc depth)) (naming (marks out) first) (group ∷ others) aggregates
+        (writing.just form) no_condition)
+        (printing.in_groups ((kind ∷ more) ∷ scopes) (0 ∷ unread) 0 (group ∷ others) aggregates
         (kind ∷ more) q) }
 {}

@@ -17,31 +17,32 @@ use Rattle.sql_tree.specs.declared.source.FromSource.TheVariants.{Named}
 use Rattle.sql_tree.specs.declared.source.FromTree.{FromTree}
 use Rattle.sql_tree.specs.declared.source.ScopeMark.TheVariants.{Plain}
 use Rattle.name_meaning.proofs.Equations.{fromitem-record, fromsource-named, token}
-use Rattle.name_meaning.specs.Cores.{has_some}
+use Rattle.name_meaning.specs.Cores.{distinct_if, has_some}
 use Rattle.name_meaning.specs.Froms.{FromItemPart, first_item, from_all, in_clause, in_from, item_meant, read_nothing, read_table, read_view, table_columns, table_plain}
 use Rattle.name_meaning.specs.Meanings.{Around, Surroundings}
 use Rattle.name_meaning.specs.Scopes.{KnownColumn, ScopeItem, numbered_columns, scope_of}
 use Rattle.name_meaning.specs.Statements.{repeats}
-use Rattle.name_meaning.specs.Trees.{core_of, from_item_of, from_of, item_of, source_of}
+use Rattle.name_meaning.specs.Trees.{from_item_of, from_of, item_of, source_of}
 use Rattle.name_meaning.specs.declared.scope.Scope.{Scope}
 use Rattle.tree_texts.specs.Forms as f
 use Rattle.tree_texts.specs.Trees.{AreItems, AreSources, IsCore, IsItem, an_item_tree, no_item_trees, no_join_trees, source_trees, table_tree}
-use Rattle.query_texts.specs.Names.{names_of, naming}
-use Rattle.query_texts.specs.declared.tables.TableNames.{TableNames}
+use Rattle.clause_texts.specs.Names.{names_of, naming}
+use Rattle.clause_texts.specs.declared.tables.TableNames.{TableNames}
 use Rattle.query_forms.specs.ShownQueries.{listed, of_table, one, selected}
-use Rattle.printed_queries.specs.Printed.{columns_from, copied, or_unread, unread_item}
+use Rattle.printed_queries.specs.Printed.{columns_from, listed as given_of, or_unread, unread_item}
 use Rattle.printed_queries.specs.PrintedExpressions.{integer}
 use Rattle.printed_queries.proofs.ShownRows.{shown_kinds}
-use Rattle.printed_expressions.specs.Scopes.{marks}
-use Rattle.printed_expressions.proofs.PlainTrees.{plain-tree}
-use Rattle.printed_expressions.proofs.ReadLeaves.{integer-read}
-use Rattle.printed_cores.specs.Queries.{QueryRead}
-use Rattle.printed_cores.proofs.OpenedCores.{core_over_parts, opened-plain}
-use Rattle.printed_cores.proofs.ReadCores.{FromRead, core-read}
-use Rattle.printed_cores.proofs.ReadFroms.{from-is, item_from, listed_names}
-use Rattle.printed_cores.proofs.ReadLists.{ListRead, item-read, no_items-read}
-use Rattle.printed_names.proofs.ReadTables.{kinds_of_columns, names, table_columns-read}
 use Rattle.printed_names.specs.ReadAs.{IsNamed, source_in}
+use Rattle.printed_cores.proofs.OpenedCores.{core_over_parts, opened-plain}
+use Rattle.printed_expressions.proofs.PlainTrees.{plain-tree}
+use Rattle.printed_cores.proofs.ReadCores.{FromRead, core-read}
+use Rattle.printed_cores.specs.Queries.{QueryRead}
+use Rattle.printed_cores.proofs.ReadFroms.{from-is, item_from, listed_names}
+use Rattle.printed_expressions.proofs.ReadLeaves.{integer-read}
+use Rattle.printed_cores.proofs.ReadLists.{ListRead, item-read, no_items-read}
+use Rattle.printed_cores.proofs.ReadQueries.{CoreRead}
+use Rattle.printed_expressions.specs.Scopes.{marks}
+use Rattle.printed_names.proofs.ReadTables.{kinds_of_columns, names, table_columns-read}
 
 -- ---- FROM over a table
 
@@ -94,26 +95,25 @@ kinds-known : (columns : List Column) → kinds_of_columns (table_columns column
 kinds-known [] = refl
 kinds-known (column ∷ columns) = ap (λ more. column.kind ∷ more) (kinds-known columns)
 
-pub table-read : (c : Contents) (tables : List TableNames) (id : ℕ) (own : List Kind) → IsNamed c tables id own → (around : Around) (out first : ℕ) (tree : Core)
-    → IsCore (of_table (naming (marks out) first) (names_of tables id)) tree
-    → ((core_of c tree).word ≡ None)
-    × QueryRead ((core_of c tree).means around) (listed_names out first own) (shown_kinds own) (copied own (source_in c tables id own))
-table-read c tables id own n around out first tree d =
+pub table-read : (c : Contents) (tables : List TableNames) (id : ℕ) (own : List Kind) → IsNamed c tables id own → (around : Around) (distinct : Bool) (out first : ℕ) (tree : Core)
+    → IsCore (of_table (names_of tables id) distinct (naming (marks out) first)) tree
+    → CoreRead c around (listed_names out first own) (shown_kinds own) (distinct_if distinct (given_of own 0 (source_in c tables id own))) tree
+table-read c tables id own n around distinct out first tree d =
     let name = (names_of tables id).name in
     let columns = table_columns n.table.columns in
     let called : (names_of tables id).columns ≡ names columns = sym (names-known n.table.columns ∙ n.columns_are) in
     let kinds_are : kinds_of_columns columns ≡ own = kinds-known n.table.columns ∙ n.kinds_are in
     let source : table_plain name n.table ≡ source_in c tables id own = sym (ap (λ entry. option_map_or (table_plain name) entry Single) n.found) in
-    let o = opened-plain c (subst (λ all. IsCore (selected false (listed (naming (marks out) first) one (map (λ name. f.column (f.bare name)) all)) (f.from (f.table name) f.no_joins) f.no_condition []) tree) called d) in
+    let o = opened-plain c (subst (λ all. IsCore (selected distinct (listed (naming (marks out) first) one (map (λ name. f.column (f.bare name)) all)) (f.from (f.table name) f.no_joins) f.no_condition []) tree) called d) in
     let has = has_some (map (from_of c) o.sources) in
     let scope = own_scope c has columns name (in_clause (scope_of (table_item c around.outer name n.table n.found ∷ [])) around.outer true) around.outer in
     let list = table_listed c has columns name (in_clause scope around.outer true) around.outer columns refl refl refl (ap repeats (sym called) ∙ n.distinct) out first o.first o.rest in
     let from = table_from-read c around.outer name n.table n.found o.from in
-    let core = core-read around (from_all around.outer (map (from_of c) o.sources)) has false (map (item_of c) (o.item ∷ o.items)) None (table_item c around.outer name n.table n.found ∷ [])
+    let core = core-read around (from_all around.outer (map (from_of c) o.sources)) has distinct (map (item_of c) (o.item ∷ o.items)) None (table_item c around.outer name n.table n.found ∷ [])
     (table_plain name n.table) from None (listed_names out first (kinds_of_columns columns)) (shown_kinds (kinds_of_columns columns))
     (λ n. or_unread unread_item (columns_from 0 (kinds_of_columns columns))) [] tt list in (
       o.unasked,
-      subst (λ m. QueryRead m (listed_names out first own) (shown_kinds own) (copied own (source_in c tables id own))) (sym (o.means around))
-          (subst (λ q. QueryRead (core_over_parts c false (o.item ∷ o.items) o.sources None around) (listed_names out first own) (shown_kinds own) (copied own q)) source
-          (subst (λ all. QueryRead (core_over_parts c false (o.item ∷ o.items) o.sources None around) (listed_names out first all) (shown_kinds all) (copied all (table_plain name n.table))) kinds_are core)),
+      subst (λ m. QueryRead m (listed_names out first own) (shown_kinds own) (distinct_if distinct (given_of own 0 (source_in c tables id own)))) (sym (o.means around))
+          (subst (λ q. QueryRead (core_over_parts c distinct (o.item ∷ o.items) o.sources None around) (listed_names out first own) (shown_kinds own) (distinct_if distinct (given_of own 0 q))) source
+          (subst (λ all. QueryRead (core_over_parts c distinct (o.item ∷ o.items) o.sources None around) (listed_names out first all) (shown_kinds all) (distinct_if distinct (given_of all 0 (table_plain name n.table)))) kinds_are core)),
     )

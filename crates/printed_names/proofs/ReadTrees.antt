@@ -1,63 +1,61 @@
 -- The tree of a query's form is read as what is printed of the query: each node over its inputs and sublinks.
-use Rattle.std.proofs.Common.{◌≡◌, ℕ, zero, suc, ◌+◌, ◌≤◌, Bool, true, false, cond, List, [], ◌∷◌, ◌++◌, length, map, Some, None, refl, sym, ap, subst, ◌∙◌, arith}
+use Rattle.std.proofs.Common.{◌≡◌, ℕ, zero, suc, ◌+◌, ◌≤◌, Bool, true, false, cond, List, [], ◌∷◌, ◌++◌, length, map, Some, None, refl, sym, ap, subst, ◌∙◌, arith, true≢false}
+use Rattle.std.proofs.lemmas.List.{map-append}
 use Rattle.std.proofs.lemmas.Option.{none-some}
-use Rattle.std.proofs.lemmas.List.{length-append, map-append}
 use Rattle.std.specs.List.{range_with_len}
-use Rattle.std.specs.Prelude.{codes}
 use Rattle.perm_values.specs.Rows.{KeysWithin}
 use Rattle.perm_values.specs.declared.key.Key.{Key}
 use Rattle.perm_values.specs.declared.kind.Kind.{Kind}
-use Rattle.bag_algebra.specs.Kinds.{kinds_in, kinds_of, width_of}
+use Rattle.bag_algebra.specs.Kinds.{kinds_in, kinds_of}
 use Rattle.bag_algebra.specs.TablesRead.{EachSubTable, EachTable}
 use Rattle.bag_algebra.specs.WellFormed.{KeysIn, SubsForm, WellFormed, column_kind, sub_kinds}
 use Rattle.bag_algebra.specs.built.Patterns.{BaseOf, FilterOf, ProjectOf, JoinOf, ApplyOf, UnionOf, IntersectOf, ExceptOf, DistinctOf, AggregateOf, LimitOf, ProvOf}
 use Rattle.bag_algebra.specs.declared.query.Aggr.{Aggr}
 use Rattle.bag_algebra.specs.declared.query.Query.{Query, Row_of-Sublink, more_of-Sublink, end_of-Sublink}
-use Rattle.bag_algebra.specs.declared.query.Query.TheVariants.{Single, Table}
+use Rattle.bag_algebra.specs.declared.query.Query.TheVariants.{Distinct, Except, Filter, Intersect, Join, Limit, Single, Table, Union}
 use Rattle.perm_catalog.specs.Contents.{Contents}
 use Rattle.sql_tree.specs.declared.query.Core.{Core}
-use Rattle.sql_tree.specs.declared.query.QueryTree.{QueryTree}
 use Rattle.sql_tree.specs.declared.source.FromTree.{FromTree}
-use Rattle.name_meaning.specs.Cores.{has_some}
-use Rattle.name_meaning.specs.Froms.{from_all, in_clause, in_from}
+use Rattle.name_meaning.specs.Cores.{distinct_if, has_some}
+use Rattle.name_meaning.specs.Froms.{from_all, in_clause}
 use Rattle.name_meaning.specs.Meanings.{Around, Surroundings}
 use Rattle.name_meaning.specs.Queries.{may_not_ask}
 use Rattle.name_meaning.specs.Scopes.{scope_of}
 use Rattle.name_meaning.specs.Sublinks.{around_of}
-use Rattle.name_meaning.specs.Trees.{from_of, item_of, query_of}
+use Rattle.name_meaning.specs.Trees.{from_of, item_of}
 use Rattle.tree_texts.specs.Forms as f
-use Rattle.tree_texts.specs.Forms.{ExprForm, QueryForm}
+use Rattle.tree_texts.specs.Forms.{ExprForm}
 use Rattle.tree_texts.specs.Trees.{AreSources, IsCore, IsQuery, no_source_trees}
-use Rattle.query_texts.specs.Names.{deeper, naming, own as own_naming}
-use Rattle.query_texts.specs.Unused.{items_use, spare}
-use Rattle.query_texts.specs.declared.tables.TableNames.{TableNames}
+use Rattle.clause_texts.specs.Chains.{is_chained}
+use Rattle.clause_texts.specs.Names.{deeper, names_of, naming, own as own_naming}
+use Rattle.clause_texts.specs.Unused.{items_use, spare}
+use Rattle.clause_texts.specs.declared.tables.TableNames.{TableNames}
+use Rattle.expression_texts.specs.Words.{is_any}
 use Rattle.query_forms.specs.ShownQueries as writing
-use Rattle.query_forms.specs.ShownQueries.{key_form, listed, one, selected, shown, sub_forms, tested_part}
+use Rattle.query_forms.specs.ShownQueries.{Framed, framed, joined, joined_to, key_form, listed, of_table, one, projected, selected, shown, source_name, sources, sub_forms, tested_by, tested_part}
 use Rattle.printed_queries.specs.Printed as printing
-use Rattle.printed_queries.specs.Printed.{copied, printed, printed_subs, unread_of}
+use Rattle.printed_queries.specs.Printed.{Readings, condition_subs, printed, printed_condition, printed_subs, readings}
 use Rattle.printed_queries.specs.Writable.{WritableQuery, WritableSubs}
 use Rattle.printed_queries.proofs.ShownRows.{shown_kinds}
 use Rattle.printed_expressions.specs.Scopes.{Few, ScopesAre, marks}
+use Rattle.printed_names.specs.ReadAs.{IsNamed, Narrow, NarrowSubs, source_in}
+use Rattle.printed_cores.proofs.OpenedCores.{opened-plain}
 use Rattle.printed_expressions.proofs.PlainShown.{AllPlain, plain-asked, plain-tested}
 use Rattle.printed_expressions.proofs.PlainTrees.{Plain}
-use Rattle.printed_expressions.proofs.ReadScopes.{finds}
 use Rattle.printed_cores.specs.Queries.{QueryRead, numbered_names, out_columns}
-use Rattle.printed_cores.proofs.OpenedCores.{opened-plain}
-use Rattle.printed_cores.proofs.ReadArms.{InputRead, copies-read, filter-read, project-read}
+use Rattle.printed_cores.proofs.ReadBlocks.{FramedRead, apart-form, apply-form, block-form, filter-block, join-form, projection-read, select-form, whole-form}
+use Rattle.printed_cores.proofs.ReadChains.{chain-from}
 use Rattle.printed_cores.proofs.ReadConditions.{SubsRead}
 use Rattle.printed_cores.proofs.ReadCopies.{columns-listed}
 use Rattle.printed_cores.proofs.ReadCores.{FromRead, core-read}
-use Rattle.printed_cores.proofs.ReadFroms.{item_of_query, listed_names, scope-over}
+use Rattle.printed_cores.proofs.ReadFroms.{listed_names}
+use Rattle.printed_groups.proofs.ReadGroups.{in_groups-read}
 use Rattle.printed_cores.proofs.ReadItems.{kinds_of_items}
-use Rattle.printed_cores.proofs.ReadJoins.{pair-scope}
-use Rattle.printed_cores.proofs.ReadLaterals.{beside}
-use Rattle.printed_cores.proofs.ReadPairs.{join_core-read, lateral_core-read}
 use Rattle.printed_cores.proofs.ReadQueries.{CoreRead, alone-read, one-read}
+use Rattle.printed_expressions.proofs.ReadScopes.{finds}
 use Rattle.printed_cores.proofs.ReadSets.{intersected-read, united-read}
 use Rattle.printed_cores.proofs.ReadSublinkForms.{sublink-read}
 use Rattle.printed_names.proofs.ReadTableCores.{table-read}
-use Rattle.printed_groups.proofs.ReadGroups.{in_groups-read}
-use Rattle.printed_names.specs.ReadAs.{IsNamed, Narrow, NarrowSubs, source_in}
 
 -- ---- forms without aggregates
 
@@ -77,9 +75,10 @@ plain-sub_forms tables prefix (more_of-Sublink kind tested query subs) =
 -- ---- one core
 
 -- no FROM
-single-read : (c : Contents) (around : Around) (out first : ℕ) (tree : Core) → IsCore (selected false (listed (naming (marks out) first) one []) f.no_from f.no_condition []) tree
-    → CoreRead c around (listed_names out first []) (shown_kinds []) (copied [] Single) tree
-single-read c around out first tree d =
+single-read : (c : Contents) (around : Around) (distinct : Bool) (out first : ℕ) (tree : Core)
+    → IsCore (selected distinct (listed (naming (marks out) first) one []) f.no_from f.no_condition []) tree
+    → CoreRead c around (listed_names out first []) (shown_kinds []) (distinct_if distinct (printing.listed [] 0 Single)) tree
+single-read c around distinct out first tree d =
     let o = opened-plain c d in
     let has = has_some (map (from_of c) o.sources) in
     let scope = scope_of [] in
@@ -87,8 +86,8 @@ single-read c around out first tree d =
     let list = columns-listed c has scope here 0 [] [] [] (λ level place kind e reference none named. absurd (no_columns level place kind e)) refl out first [] (λ i kind e. absurd (none-some kind e)) o.first o.rest in
     let from = nothing-read o.sources o.from in (
       o.unasked,
-      subst (λ m. QueryRead m (listed_names out first []) (shown_kinds []) (copied [] Single)) (sym (o.means around))
-          (core-read around (from_all around.outer (map (from_of c) o.sources)) has false (map (item_of c) (o.item ∷ o.items)) None [] Single from None
+      subst (λ m. QueryRead m (listed_names out first []) (shown_kinds []) (distinct_if distinct (printing.listed [] 0 Single))) (sym (o.means around))
+          (core-read around (from_all around.outer (map (from_of c) o.sources)) has distinct (map (item_of c) (o.item ∷ o.items)) None [] Single from None
           (listed_names out first []) (shown_kinds []) (λ n. printing.or_unread printing.unread_item (printing.columns_from 0 [])) [] tt list),
     )
   where
@@ -114,15 +113,13 @@ keys-shown count keys =
 
 -- ---- the right side of a set operation
 
-right-read : (c : Contents) (depth : ℕ) (outer : List (List Kind)) (unread : List ℕ) (around : Around) (left right : List Kind) → left ≡ right → Few left
-    → ScopesAre depth outer unread around.outer → (below : QueryForm) (q : Query) → InputRead c depth around.outer right below q → (out first : ℕ) (tree : Core)
-    → IsCore (selected false (listed (naming (marks out) first) one (writing.columns (marks (suc depth)) (length right))) (writing.over below) f.no_condition []) tree
-    → CoreRead c around (listed_names out first left) (shown_kinds left) (copied right q) tree
-right-read c depth outer unread around left right same few s below q input out first tree d =
-    subst (λ own. CoreRead c around (listed_names out first own) (shown_kinds own) (copied right q) tree) (sym same)
-    (copies-read c depth outer unread around right (subst Few same few) s below q input false out first tree d)
+right-core : (c : Contents) (depth : ℕ) (outer : List (List Kind)) (unread : List ℕ) (around : Around) (left right : List Kind) → left ≡ right → Few left
+    → ScopesAre depth outer unread around.outer → (form : Framed) (r : Readings) → FramedRead c depth outer unread right form r → (out first : ℕ) (tree : Core)
+    → IsCore (form.core false (naming (marks out) first)) tree → CoreRead c around (listed_names out first left) (shown_kinds left) r.core tree
+right-core c depth outer unread around left right same few s form r read out first tree d =
+    subst (λ own. CoreRead c around (listed_names out first own) (shown_kinds own) r.core tree) (sym same) (read.core (subst Few same few) around s false out first tree d)
 
--- all keys are within what is copied
+-- all keys are within what is given
 length-columns : (names : List (List ℕ)) (kinds : List Kind) → length names ≡ length kinds → length (out_columns names kinds) ≡ length kinds
 length-columns [] [] e = refl
 length-columns [] (kind ∷ kinds) e = absurd (omega (arith, e))
@@ -159,110 +156,147 @@ module _ (c : Contents) (tables : List TableNames) where
   abbrev source : ℕ → List Kind → Query
   source = source_in c tables
 
-  abbrev Reads : List (List Kind) → List ℕ → Around → ℕ → ℕ → Query → QueryTree → Type 0
-  Reads outer unread around out first q tree =
-      QueryRead ((query_of c tree).means around) (listed_names out first (kinds_of q)) (shown_kinds (kinds_of q)) (printed source outer unread q)
+  abbrev Reads : ℕ → List (List Kind) → List ℕ → Query → Type 0
+  Reads depth outer unread q = FramedRead c depth outer unread (kinds_of q) (framed tables (marks (suc depth)) q) (readings source outer unread q)
 
   mutual
-    pub query-read : (q : Query) (depth : ℕ) (outer : List (List Kind)) (unread : List ℕ) (around : Around) → ScopesAre depth outer unread around.outer → WellFormed outer q
-        → WritableQuery q → EachTable (IsNamed c tables) q → Narrow q → (out first : ℕ) (tree : QueryTree)
-        → IsQuery (shown tables (marks (suc depth)) (naming (marks out) first) q) tree → Reads outer unread around out first q tree
-    query-read (Table id kinds) depth outer unread around s form w named narrow out first tree d =
-        alone-read c around _ (listed_names out first kinds) (shown_kinds kinds) (copied kinds (source id kinds)) (λ core e. table-read c tables id kinds named around out first core e) tree d
-    query-read Single depth outer unread around s form w named narrow out first tree d =
-        alone-read c around _ (listed_names out first []) (shown_kinds []) (copied [] Single) (λ core e. single-read c around out first core e) tree d
-    query-read (BaseOf input places label) depth outer unread around s form w named narrow out first tree d =
-        query-read input depth outer unread around s form.input w named narrow out first tree d
-    query-read (FilterOf input condition shape subs) depth outer unread around s form w named narrow out first tree d =
+    pub query-read : (q : Query) (depth : ℕ) (outer : List (List Kind)) (unread : List ℕ) → WellFormed outer q → WritableQuery q → EachTable (IsNamed c tables) q → Narrow q
+        → Reads depth outer unread q
+    query-read (Table id kinds) depth outer unread form w named narrow =
+        select-form c depth outer unread kinds (of_table (names_of tables id)) (printing.listed kinds 0 (source id kinds))
+        (λ around s distinct out first tree d. table-read c tables id kinds named around distinct out first tree d)
+    query-read Single depth outer unread form w named narrow =
+        select-form c depth outer unread [] (λ distinct out. selected distinct (listed out one []) f.no_from f.no_condition []) (printing.listed [] 0 Single)
+        (λ around s distinct out first tree d. single-read c around distinct out first tree d)
+    query-read (BaseOf input places label) depth outer unread form w named narrow =
+        whole-form c depth outer unread (kinds_of input) (framed tables (marks (suc depth)) input).whole (readings source outer unread input).whole
+        (query-read input depth outer unread form.input w named narrow).whole
+    query-read (FilterOf input condition shape subs) depth outer unread form w named narrow =
         let own = kinds_of input in
-        let asked = printed_subs source (own ∷ outer) (0 ∷ unread) subs in
-        alone-read c around _ (listed_names out first own) (shown_kinds own) (printed source outer unread (FilterOf input condition shape subs))
-        (λ core e. filter-read c depth outer unread around own narrow.0 s (shown tables (marks (suc depth)) (own_naming (marks (suc depth))) input) (printed source outer unread input)
-        (λ t g. query-read input depth outer unread (in_from around.outer) s form.input w.0 named.0 narrow.1 (suc depth) 1 t g)
-        (sub_forms tables (marks (suc depth)) subs) asked (sub_kinds subs)
-        (λ here scopes outside standing. subs-read subs (suc depth) (own ∷ outer) (0 ∷ unread) here
-        (subst (ScopesAre (suc depth) (own ∷ outer) (0 ∷ unread)) (sym scopes) (scope-over (suc depth) (codes "t1") own narrow.0, s)) outside standing form.subs w.2 named.1 narrow.2)
-        condition form.condition w.1 out first core e) tree d
-    query-read (ProjectOf input items shape subs) depth outer unread around s form w named narrow out first tree d =
+        let prefix = marks (suc depth) in
+        let below = query-read input depth outer unread form.input w.0 named.0 narrow.1 in
+        let r = readings source outer unread input in
+        let front = r.from_before in
+        let chain = (framed tables prefix input).from in
+        let asked = printed_subs source (own ∷ outer) (front ∷ unread) subs in
+        let forms = sub_forms tables prefix subs in
+        block-form c depth outer unread own false chain (f.condition (tested_by prefix forms condition)) front
+        (Filter r.from (printed_condition (front ∷ unread) asked condition) (condition_subs asked condition))
+        (λ above s. let from = below.from narrow.0 above s in
+        filter-block c depth above outer unread own front from.items from.ends.is s forms asked (sub_kinds subs)
+        (λ here scopes outside standing. subs-read subs (suc depth) (own ∷ outer) (front ∷ unread) here
+        (subst (ScopesAre (suc depth) (own ∷ outer) (front ∷ unread)) (sym scopes) (from.ends.is, s)) outside standing form.subs w.2 named.1 narrow.2)
+        condition form.condition w.1 chain r.from (λ trees d. chain-from c (suc depth) above chain from.items r.from (λ item steps e es. (from.read item steps e es).from) d))
+        (λ any. absurd (true≢false (sym any)))
+    query-read (ProjectOf input items shape subs) depth outer unread form w named narrow =
         let own = kinds_of input in
-        let asked = printed_subs source (own ∷ outer) (0 ∷ unread) subs in
-        let forms = sub_forms tables (marks (suc depth)) subs in
-        let plain = plain-sub_forms tables (marks (suc depth)) subs in
-        alone-read c around _ (listed_names out first (kinds_of_items items)) (shown_kinds (kinds_of_items items)) (printed source outer unread (ProjectOf input items shape subs))
-        (λ core e. project-read c depth outer unread around own narrow.0 s (shown tables (marks (suc depth)) (own_naming (marks (suc depth))) input) (printed source outer unread input)
-        (λ t g. query-read input depth outer unread (in_from around.outer) s form.input w.0 named.0 narrow.1 (suc depth) 1 t g) forms asked (sub_kinds subs)
-        (λ here scopes outside standing. subs-read subs (suc depth) (own ∷ outer) (0 ∷ unread) here
-        (subst (ScopesAre (suc depth) (own ∷ outer) (0 ∷ unread)) (sym scopes) (scope-over (suc depth) (codes "t1") own narrow.0, s)) outside standing form.subs w.2 named.1 narrow.2)
-        items form.items w.1 plain (plain-spare (items_use items) 0 forms plain) out first core e) tree d
-    query-read (JoinOf kind left right condition shape subs) depth outer unread around s form w named narrow out first tree d =
+        let prefix = marks (suc depth) in
+        let below = query-read input depth outer unread form.input w.0 named.0 narrow.1 in
+        let r = readings source outer unread input in
+        let given = framed tables prefix input in
+        let front = r.before in
+        let asked = printed_subs source (own ∷ outer) (front ∷ unread) subs in
+        let forms = sub_forms tables prefix subs in
+        let plain = plain-sub_forms tables prefix subs in
+        select-form c depth outer unread (kinds_of_items items)
+        (λ distinct out. selected distinct (projected prefix out forms (spare (items_use items) 0 forms) items) (sources given.block) given.test [])
+        (printing.projected (front ∷ unread) asked items r.block)
+        (λ around s distinct out first tree d. let block = below.block narrow.0 around.outer s in
+        projection-read c depth outer unread around own front given.block given.test r.block block s forms asked (sub_kinds subs)
+        (λ here scopes outside standing. subs-read subs (suc depth) (own ∷ outer) (front ∷ unread) here
+        (subst (ScopesAre (suc depth) (own ∷ outer) (front ∷ unread)) (sym scopes) (block.scope, s)) outside standing form.subs w.2 named.1 narrow.2)
+        items form.items w.1 plain (plain-spare (items_use items) 0 forms plain) distinct out first tree d)
+    query-read (JoinOf kind left right condition shape subs) depth outer unread form w named narrow =
         let lefts = kinds_of left in
         let rights = kinds_of right in
-        let before = unread_of lefts ∷ unread in
+        let prefix = marks (suc depth) in
+        let chained = is_chained kind in
+        let lr = printing.apart_unless lefts chained (readings source outer unread left) in
+        let rr = readings source outer unread right in
         let scopes = (lefts ++ rights) ∷ outer in
-        let asked = printed_subs source scopes before subs in
-        let prefix = marks (suc depth) in
-        alone-read c around _ (listed_names out first (lefts ++ rights)) (shown_kinds (lefts ++ rights)) (printed source outer unread (JoinOf kind left right condition shape subs))
-        (λ core e. join_core-read c depth outer unread around lefts rights narrow.0 s (shown tables prefix (own_naming prefix) left) (shown tables prefix (naming prefix (width_of left + 1)) right)
-        (printed source outer unread left) (printed source outer unread right)
-        (λ t g. query-read left depth outer unread (in_from around.outer) s form.left w.0 named.0 narrow.1 (suc depth) 1 t g) kind (sub_forms tables prefix subs) asked (sub_kinds subs)
-        (λ here same outside standing. subs-read subs (suc depth) scopes before here
-        (subst (ScopesAre (suc depth) scopes before) (sym same) (pair-scope (suc depth) lefts rights narrow.0, s)) outside standing form.subs w.3 named.2 narrow.3)
-        (λ t g. query-read right depth outer unread (in_from around.outer) s form.right w.1 named.1 narrow.2 (suc depth) (width_of left + 1) t g)
-        condition form.condition w.2 out first core e) tree d
-    query-read (ApplyOf kind left right) depth outer unread around s form w named narrow out first tree d =
+        let fronts = lr.from_before ∷ unread in
+        let lf = writing.apart_unless prefix (length lefts) chained (framed tables prefix left) in
+        let forms = sub_forms tables prefix subs in
+        let asked = printed_subs source scopes fronts subs in
+        let number = length lefts + 1 in
+        let last = f.a_join (joined kind) (f.subquery ((framed tables prefix right).whole (naming prefix number)) (source_name number)) (tested_by prefix forms condition) f.no_joins in
+        apart-form c depth outer unread (lefts ++ rights) chained
+        (writing.a_block prefix (length (lefts ++ rights)) (is_any (length rights)) (joined_to lf.from last) f.no_condition)
+        (printing.a_block (lefts ++ rights) (is_any (length rights)) lr.from_before
+        (Join kind lr.from rr.whole (printed_condition fronts asked condition) (condition_subs asked condition)))
+        (join-form c depth outer unread lefts rights narrow.0 lf lr
+        (apart-form c depth outer unread lefts chained (framed tables prefix left) (readings source outer unread left)
+        (query-read left depth outer unread form.left w.0 named.0 narrow.1))
+        (framed tables prefix right) rr (query-read right depth outer unread form.right w.1 named.1 narrow.2)
+        kind forms asked (sub_kinds subs)
+        (λ above s items scope here same outside standing. subs-read subs (suc depth) scopes fronts here
+        (subst (ScopesAre (suc depth) scopes fronts) (sym same) (scope, s)) outside standing form.subs w.3 named.2 narrow.3)
+        condition form.condition w.2)
+    query-read (ApplyOf kind left right) depth outer unread form w named narrow =
         let lefts = kinds_of left in
         let rights = kinds_of right in
         let prefix = marks (suc depth) in
-        let all = narrow.0 in
-        let few : Few lefts = omega (arith, all, length-append lefts rights) in
-        alone-read c around _ (listed_names out first (lefts ++ rights)) (shown_kinds (lefts ++ rights)) (printed source outer unread (ApplyOf kind left right))
-        (λ core e. lateral_core-read c depth outer unread around lefts rights narrow.0 s (shown tables prefix (own_naming prefix) left)
-        (shown tables (deeper prefix) (naming prefix (width_of left + 1)) right) (printed source outer unread left) (printed source (lefts ∷ outer) (0 ∷ unread) right)
-        (λ t g. query-read left depth outer unread (in_from around.outer) s form.left w.0 named.0 narrow.1 (suc depth) 1 t g) kind
-        (λ t g. query-read right (suc depth) (lefts ∷ outer) (0 ∷ unread) (beside (item_of_query (codes "t1") (listed_names (suc depth) 1 lefts) (shown_kinds lefts) ∷ []) around.outer)
-        (scope-over (suc depth) (codes "t1") lefts few, s) form.right w.1 named.1 narrow.2 (suc depth) (width_of left + 1) t g)
-        out first core e) tree d
-    query-read (UnionOf all left right) depth outer unread around s form w named narrow out first tree d =
-        united-read c around (listed_names out first (kinds_of left)) (shown_kinds (kinds_of left)) (copied (kinds_of left) (printed source outer unread left))
-        (copied (kinds_of right) (printed source outer unread right)) _ _
-        (λ core e. copies-read c depth outer unread around (kinds_of left) narrow.0 s (shown tables (marks (suc depth)) (own_naming (marks (suc depth))) left) (printed source outer unread left)
-        (λ t g. query-read left depth outer unread (in_from around.outer) s form.left_side w.0 named.0 narrow.1 (suc depth) 1 t g) false out first core e)
-        (λ core e. right-read c depth outer unread (may_not_ask around) (kinds_of left) (kinds_of right) form.same_kinds narrow.0 s (shown tables (marks (suc depth)) (own_naming (marks (suc depth))) right)
-        (printed source outer unread right) (λ t g. query-read right depth outer unread (in_from around.outer) s form.right_side w.1 named.1 narrow.2 (suc depth) 1 t g) out first core e) f.union all d
-    query-read (IntersectOf all left right) depth outer unread around s form w named narrow out first tree d =
-        intersected-read c around (listed_names out first (kinds_of left)) (shown_kinds (kinds_of left)) (copied (kinds_of left) (printed source outer unread left))
-        (copied (kinds_of right) (printed source outer unread right)) _ _
-        (λ core e. copies-read c depth outer unread around (kinds_of left) narrow.0 s (shown tables (marks (suc depth)) (own_naming (marks (suc depth))) left) (printed source outer unread left)
-        (λ t g. query-read left depth outer unread (in_from around.outer) s form.left_side w.0 named.0 narrow.1 (suc depth) 1 t g) false out first core e)
-        (λ core e. right-read c depth outer unread (may_not_ask around) (kinds_of left) (kinds_of right) form.same_kinds narrow.0 s (shown tables (marks (suc depth)) (own_naming (marks (suc depth))) right)
-        (printed source outer unread right) (λ t g. query-read right depth outer unread (in_from around.outer) s form.right_side w.1 named.1 narrow.2 (suc depth) 1 t g) out first core e) all d
-    query-read (ExceptOf all left right) depth outer unread around s form w named narrow out first tree d =
-        united-read c around (listed_names out first (kinds_of left)) (shown_kinds (kinds_of left)) (copied (kinds_of left) (printed source outer unread left))
-        (copied (kinds_of right) (printed source outer unread right)) _ _
-        (λ core e. copies-read c depth outer unread around (kinds_of left) narrow.0 s (shown tables (marks (suc depth)) (own_naming (marks (suc depth))) left) (printed source outer unread left)
-        (λ t g. query-read left depth outer unread (in_from around.outer) s form.left_side w.0 named.0 narrow.1 (suc depth) 1 t g) false out first core e)
-        (λ core e. right-read c depth outer unread (may_not_ask around) (kinds_of left) (kinds_of right) form.same_kinds narrow.0 s (shown tables (marks (suc depth)) (own_naming (marks (suc depth))) right)
-        (printed source outer unread right) (λ t g. query-read right depth outer unread (in_from around.outer) s form.right_side w.1 named.1 narrow.2 (suc depth) 1 t g) out first core e) f.except all d
-    query-read (DistinctOf input) depth outer unread around s form w named narrow out first tree d =
-        alone-read c around _ (listed_names out first (kinds_of input)) (shown_kinds (kinds_of input)) (printed source outer unread (DistinctOf input))
-        (λ core e. copies-read c depth outer unread around (kinds_of input) narrow.0 s (shown tables (marks (suc depth)) (own_naming (marks (suc depth))) input) (printed source outer unread input)
-        (λ t g. query-read input depth outer unread (in_from around.outer) s form w named narrow.1 (suc depth) 1 t g) true out first core e) tree d
-    query-read (AggregateOf input groups aggregates) depth outer unread around s form w named narrow out first tree d =
+        let lr = readings source outer unread left in
+        apply-form c depth outer unread lefts rights narrow.0 (framed tables prefix left) lr (query-read left depth outer unread form.left w.0 named.0 narrow.1)
+        (framed tables (deeper prefix) right) (readings source (lefts ∷ outer) (lr.from_before ∷ unread) right)
+        (query-read right (suc depth) (lefts ∷ outer) (lr.from_before ∷ unread) form.right w.1 named.1 narrow.2).whole kind
+    query-read (UnionOf all left right) depth outer unread form w named narrow =
+        let r = query-read right depth outer unread form.right_side w.1 named.1 narrow.2 in
+        let l = query-read left depth outer unread form.left_side w.0 named.0 narrow.1 in
+        whole-form c depth outer unread (kinds_of left) (framed tables (marks (suc depth)) (UnionOf all left right)).whole
+        (Union all (readings source outer unread left).core (readings source outer unread right).core)
+        (λ around s out first tree d. united-read c around (listed_names out first (kinds_of left)) (shown_kinds (kinds_of left)) (readings source outer unread left).core
+        (readings source outer unread right).core _ _ (λ core e. l.core narrow.0 around s false out first core e)
+        (λ core e. right-core c depth outer unread (may_not_ask around) (kinds_of left) (kinds_of right) form.same_kinds narrow.0 s (framed tables (marks (suc depth)) right)
+        (readings source outer unread right) r out first core e) f.union all d)
+    query-read (IntersectOf all left right) depth outer unread form w named narrow =
+        let r = query-read right depth outer unread form.right_side w.1 named.1 narrow.2 in
+        let l = query-read left depth outer unread form.left_side w.0 named.0 narrow.1 in
+        whole-form c depth outer unread (kinds_of left) (framed tables (marks (suc depth)) (IntersectOf all left right)).whole
+        (Intersect all (readings source outer unread left).core (readings source outer unread right).core)
+        (λ around s out first tree d. intersected-read c around (listed_names out first (kinds_of left)) (shown_kinds (kinds_of left)) (readings source outer unread left).core
+        (readings source outer unread right).core _ _ (λ core e. l.core narrow.0 around s false out first core e)
+        (λ core e. right-core c depth outer unread (may_not_ask around) (kinds_of left) (kinds_of right) form.same_kinds narrow.0 s (framed tables (marks (suc depth)) right)
+        (readings source outer unread right) r out first core e) all d)
+    query-read (ExceptOf all left right) depth outer unread form w named narrow =
+        let r = query-read right depth outer unread form.right_side w.1 named.1 narrow.2 in
+        let l = query-read left depth outer unread form.left_side w.0 named.0 narrow.1 in
+        whole-form c depth outer unread (kinds_of left) (framed tables (marks (suc depth)) (ExceptOf all left right)).whole
+        (Except all (readings source outer unread left).core (readings source outer unread right).core)
+        (λ around s out first tree d. united-read c around (listed_names out first (kinds_of left)) (shown_kinds (kinds_of left)) (readings source outer unread left).core
+        (readings source outer unread right).core _ _ (λ core e. l.core narrow.0 around s false out first core e)
+        (λ core e. right-core c depth outer unread (may_not_ask around) (kinds_of left) (kinds_of right) form.same_kinds narrow.0 s (framed tables (marks (suc depth)) right)
+        (readings source outer unread right) r out first core e) f.except all d)
+    query-read (DistinctOf input) depth outer unread form w named narrow =
+        let below = query-read input depth outer unread form w named narrow.1 in
+        let r = readings source outer unread input in
+        whole-form c depth outer unread (kinds_of input) (framed tables (marks (suc depth)) (DistinctOf input)).whole (Distinct r.core)
+        (λ around s out first tree d. alone-read c around _ (listed_names out first (kinds_of input)) (shown_kinds (kinds_of input)) (Distinct r.core)
+        (λ core e. below.core narrow.0 around s true out first core e) tree d)
+    query-read (AggregateOf input groups aggregates) depth outer unread form w named narrow =
         let own = kinds_of input in
+        let prefix = marks (suc depth) in
+        let below = query-read input depth outer unread form.input w.0 named narrow.2 in
+        let r = readings source outer unread input in
+        let given = framed tables prefix input in
         let all = kinds_in own groups ++ map (λ (aggregate : Aggr). aggregate.kind) aggregates in
-        alone-read c around _ (listed_names out first all) (shown_kinds all) (printed source outer unread (AggregateOf input groups aggregates))
-        (λ core e. in_groups-read c depth outer unread around own narrow.0 s (shown tables (marks (suc depth)) (own_naming (marks (suc depth))) input) (printed source outer unread input)
-        (λ t g. query-read input depth outer unread (in_from around.outer) s form.input w.0 named narrow.2 (suc depth) 1 t g)
-        groups aggregates form.groups form.aggregates w.1 narrow.1 out first core e) tree d
-    query-read (LimitOf input keys count) depth outer unread around s form w named narrow out first tree d =
+        whole-form c depth outer unread all (framed tables prefix (AggregateOf input groups aggregates)).whole
+        (printing.in_groups (own ∷ outer) (r.before ∷ unread) r.before groups aggregates own r.block)
+        (λ around s out first tree d. alone-read c around _ (listed_names out first all) (shown_kinds all)
+        (printing.in_groups (own ∷ outer) (r.before ∷ unread) r.before groups aggregates own r.block)
+        (λ core e. in_groups-read c depth outer unread around own r.before s given.block given.test r.block (below.block narrow.0 around.outer s)
+        groups aggregates form.groups form.aggregates w.1 narrow.1 out first core e) tree d)
+    query-read (LimitOf input keys count) depth outer unread form w named narrow =
         let own = kinds_of input in
-        (one-read c (printing.all_keys (length own) keys) (Some count) around (listed_names out first own) (shown_kinds own) (copied own (printed source outer unread input))
-        (keys-within own out first keys form.keys)
-        (subst (λ ks. IsQuery (f.one (writing.copied (marks (suc depth)) (naming (marks out) first) (width_of input) (shown tables (marks (suc depth)) (own_naming (marks (suc depth))) input)) ks (Some count)) tree)
-        (keys-shown (length own) keys) d)
-        (λ core e. copies-read c depth outer unread around own narrow.0 s (shown tables (marks (suc depth)) (own_naming (marks (suc depth))) input) (printed source outer unread input)
-        (λ t g. query-read input depth outer unread (in_from around.outer) s form.input w named narrow.1 (suc depth) 1 t g) false out first core e)).0
-    query-read (ProvOf input) depth outer unread around s form w named narrow out first tree d = absurd w
+        let below = query-read input depth outer unread form.input w named narrow.1 in
+        let r = readings source outer unread input in
+        let given = framed tables (marks (suc depth)) input in
+        whole-form c depth outer unread own (framed tables (marks (suc depth)) (LimitOf input keys count)).whole (Limit r.core (printing.all_keys (length own) keys) count)
+        (λ around s out first tree d.
+        (one-read c (printing.all_keys (length own) keys) (Some count) around (listed_names out first own) (shown_kinds own) r.core (keys-within own out first keys form.keys)
+        (subst (λ ks. IsQuery (f.one (given.core false (naming (marks out) first)) ks (Some count)) tree) (keys-shown (length own) keys) d)
+        (λ core e. below.core narrow.0 around s false out first core e)).0)
+    query-read (ProvOf input) depth outer unread form w named narrow = absurd w
 
     subs-read : {m : _} (subs : Row_of-Sublink m) (depth : ℕ) (scopes : List (List Kind)) (unread : List ℕ) (here : Surroundings) → ScopesAre depth scopes unread here.scopes
         → here.argument ≡ false → here.sublinks ≡ true → SubsForm scopes subs → WritableSubs subs → EachSubTable (IsNamed c tables) subs → NarrowSubs subs
@@ -271,6 +305,6 @@ module _ (c : Contents) (tables : List TableNames) where
     subs-read (more_of-Sublink kind tested query subs) depth scopes unread here s outside standing form w named narrow = (
       sublink-read c depth scopes unread here (finds depth scopes unread here.scopes s) outside standing (shown tables (marks (suc depth)) (own_naming (marks (suc depth))) query)
           (kinds_of query) (printed source scopes unread query)
-          (λ t g. query-read query depth scopes unread (around_of here) s form.query w.1 named.0 narrow.0 (suc depth) 1 t g) kind tested form.fitting w.0,
+          (λ t g. (query-read query depth scopes unread form.query w.1 named.0 narrow.0).whole (around_of here) s (suc depth) 1 t g) kind tested form.fitting w.0,
       subs-read subs depth scopes unread here s outside standing form.others w.2 named.1 narrow.1,
     )

@@ -11,7 +11,7 @@ use Rattle.bag_algebra.specs.Bags.{Row}
 use Rattle.bag_algebra.specs.Children.{subs_denote, sublink_value}
 use Rattle.bag_algebra.specs.Expressions.{value}
 use Rattle.bag_algebra.specs.Meaning.{Database, sub_denote, meaning, optional_value, condition_on, items_on}
-use Rattle.bag_algebra.specs.Means.{sub_value}
+use Rattle.bag_algebra.specs.Means.{SubMeans, sub_value}
 use Rattle.bag_algebra.specs.Outcome.{Outcome, Good, Bad, and_then, mapped, both, both_then, each}
 use Rattle.bag_algebra.specs.WellFormed.{HasKind, ItemsForm, sub_kinds}
 use Rattle.bag_algebra.specs.declared.expr.Expr.{Expr}
@@ -19,15 +19,14 @@ use Rattle.bag_algebra.specs.declared.expr.Item.{Item}
 use Rattle.bag_algebra.specs.declared.query.Query.{Row_of-Sublink, more_of-Sublink, end_of-Sublink}
 use Rattle.bag_algebra.specs.declared.query.Sublink.{Sublink}
 use Rattle.bag_algebra.proofs.Truths.{or_true}
-use Rattle.query_texts.specs.Unused.{used_in, items_use}
+use Rattle.clause_texts.specs.Unused.{used_in, items_use}
 use Rattle.printed_queries.specs.Carried.{Carries, Answered}
 use Rattle.printed_queries.specs.Printed.{idle, idle_in, nothing_asked, taken, printed_condition, condition_subs, asked_by, printed_items, first_beside}
 use Rattle.printed_queries.specs.PrintedExpressions.{asked_in, integer, printed_expr}
 use Rattle.printed_queries.specs.Writable.{Writable, WritableItems}
 use Rattle.printed_queries.proofs.AskedNumbers.{asks, Below, asks-append, below-append, uses-asked, asked-below, idle-asks, idle-below}
 use Rattle.printed_queries.proofs.PrintedValues.{answered-rest, beside-value, value-printed}
-use Rattle.printed_queries.proofs.RelatedOutcomes.{AlikeOutcomes}
-use Rattle.printed_queries.proofs.ShownRows.{Shown, WideRow, wide-next}
+use Rattle.printed_queries.proofs.ShownRows.{mark, WideRow, wide-next}
 use Rattle.printed_queries.proofs.TakenAnswers.{Answers, answer_at, looked_at, taken-answers, answered-taken}
 
 -- ---- without sublinks
@@ -112,13 +111,13 @@ wide-after : {X : Type 0} (width : ℕ) (f : X → Outcome Row) → ((x : X) →
 wide-after width f wide (Good x) = wide x
 wide-after width f wide (Bad g) = tt
 
-unread-shown : {X : Type 0} (o : Outcome X) → AlikeOutcomes (Shown []) (and_then o (λ x. Good [])) (and_then o (λ x. Good (Integer (pos 1) ∷ [])))
-unread-shown (Good x) = (refl, refl)
-unread-shown (Bad f) = refl
+unread-marked : {X : Type 0} (o : Outcome X) → and_then o (λ x. Good (Integer (pos 1) ∷ [])) ≡ mapped (mark []) (and_then o (λ x. Good []))
+unread-marked (Good x) = refl
+unread-marked (Bad f) = refl
 
-same-shown : (kind : Kind) (more : List Kind) (o : Outcome Row) → WideRow (length (kind ∷ more)) o → AlikeOutcomes (Shown (kind ∷ more)) o o
-same-shown kind more (Good row) w = (refl, w)
-same-shown kind more (Bad f) w = refl
+same-marked : (kind : Kind) (more : List Kind) (o : Outcome Row) → o ≡ mapped (mark (kind ∷ more)) o
+same-marked kind more (Good row) = refl
+same-marked kind more (Bad f) = refl
 
 -- ---- a node's expressions
 
@@ -193,30 +192,35 @@ module _ (db : Database) (scopes : List (List Kind)) (unread : List ℕ) (u v : 
       (beside-value v other read item.kind count (printed_expr unread count item.expr))
       ∙ items-read given read (item ∷ items) count form w a
 
-  pub items-shown : (items : List Item) → ItemsForm scopes (sub_kinds subs) items → WritableItems items
-      → AlikeOutcomes (Shown (map (λ (item : Item). item.kind) items)) (items_on items env (sub_denote subs db env) u)
-      (items_on (first_beside unread (length (idle (items_use items) (length asked))) items) other
-      (subs_denote (taken asked (idle (items_use items) (length asked) ++ asked_by items)) db other) v)
-  items-shown [] form w =
+  -- the values of items; where there are none, one that is read nowhere
+  pub items-marked : (items : List Item) → ItemsForm scopes (sub_kinds subs) items → WritableItems items
+      → items_on (first_beside unread (length (idle (items_use items) (length asked))) items) other
+      (subs_denote (taken asked (idle (items_use items) (length asked) ++ asked_by items)) db other) v
+      ≡ mapped (mark (map (λ (item : Item). item.kind) items)) (items_on items env (sub_denote subs db env) u)
+  items-marked [] form w =
       let first = idle (items_use []) (length asked) in
       let given = (sub_denote subs db env).answers u in
       let printed : List Value → Outcome Row = λ vs. each (λ (item : Item). value item.expr v other vs) (first_beside unread (length first) []) in
-      let read = ap (λ o. and_then o printed) (answers-read first [] (all-below [] form) (all-covered []))
+      ap (λ o. and_then o printed) (answers-read first [] (all-below [] form) (all-covered []))
       ∙ and_then-mapped (λ vs. map (value_at vs) (first ++ [])) (λ vs. Good (Integer (pos 1) ∷ [])) printed
       (λ vs. ap (λ o. both (λ x xs. x ∷ xs) o (Good [])) (beside-value v other (map (value_at vs) (first ++ [])) kinds.Integer (length first) (integer 1)))
-      given in
-      subst (AlikeOutcomes (Shown []) (and_then given (λ vs. Good []))) (sym read) (unread-shown given)
-  items-shown (item ∷ items) form w =
+      given
+      ∙ unread-marked given
+  items-marked (item ∷ items) form w =
       let all = item ∷ items in
       let first = idle (items_use all) (length asked) in
       let given = (sub_denote subs db env).answers u in
       let own : List Value → Outcome Row = λ vs. each (λ (item : Item). value item.expr u env vs) all in
       let printed : List Value → Outcome Row = λ vs. each (λ (item : Item). value item.expr v other vs) (first_beside unread (length first) all) in
-      let read = ap (λ o. and_then o printed) (answers-read first (asked_by all) (all-below all form) (all-covered all))
+      ap (λ o. and_then o printed) (answers-read first (asked_by all) (all-below all form) (all-covered all))
       ∙ and_then-mapped (λ vs. map (value_at vs) (first ++ asked_by all)) own printed
       (λ vs. first-read vs (map (value_at vs) (first ++ asked_by all)) item items (length first) form w (answered-taken vs first (asked_by all)))
-      given in
-      let wide = subst (λ n. WideRow n (and_then given own)) (sym (length-map all (λ (item : Item). item.kind)))
-      (wide-after (length all) own (λ vs. wide-each (λ (item : Item). value item.expr u env vs) all) given) in
-      subst (AlikeOutcomes (Shown (map (λ (item : Item). item.kind) all)) (and_then given own)) (sym read)
-      (same-shown item.kind (map (λ (item : Item). item.kind) items) (and_then given own) wide)
+      given
+      ∙ same-marked item.kind (map (λ (item : Item). item.kind) items) (and_then given own)
+
+-- items have as many values as kinds
+pub items-wide : (items : List Item) (env : List Row) (subs : SubMeans) (u : Row) → WideRow (length (map (λ (item : Item). item.kind) items)) (items_on items env subs u)
+items-wide items env subs u =
+    subst (λ n. WideRow n (items_on items env subs u)) (sym (length-map items (λ (item : Item). item.kind)))
+    (wide-after (length items) (λ vs. each (λ (item : Item). value item.expr u env vs) items)
+    (λ vs. wide-each (λ (item : Item). value item.expr u env vs) items) (subs.answers u))

@@ -25,7 +25,7 @@ use Rattle.printed_queries.specs.PrintedExpressions.{printed_expr}
 use Rattle.printed_queries.specs.Writable.{Writable, WritableAggregates, WritableOption}
 use Rattle.printed_queries.proofs.ReadSublinks.{value-alone}
 use Rattle.printed_queries.proofs.RelatedOutcomes.{Along, AlikeOutcomes, along-kept, along-map, filter-along, alike-kept, alike-both, alike-and_then}
-use Rattle.printed_queries.proofs.ShownRows.{Shown, Faces, shown-faces, shown-carried, alike-itself, items_values, copied-alike, Wide, WideRow, WideOutcome, wide-next, wide-rows}
+use Rattle.printed_queries.proofs.ShownRows.{Shown, Faces, faces-carried, alike-itself, items_values, copied-alike, Wide, WideRow, WideOutcome, wide-next, wide-rows}
 use Rattle.printed_queries.proofs.ShownSets.{wide-once}
 
 -- ---- arguments
@@ -63,20 +63,20 @@ picked-behind (suc count) start x b =
     let next : start + 1 ≡ suc start = omega arith in
     λ i. ap (value_at (x ∷ b)) next i ∷ picked-behind count (start + 1) x b i
 
-lower-next : (group : ℕ) (groups : List ℕ) (aggregates : List Aggr) (u v a b : Row) → value_at v group ≡ value_at u group
-    → Lower groups aggregates u a b → Lower (group ∷ groups) aggregates u a (value_at v group ∷ b)
-lower-next group groups aggregates u v a b same l = record {
-  keys = λ i. same i ∷ (picked-behind (length groups) 0 (value_at v group) b ∙ l.keys) i;
-  rest = rest-further 0 (length groups) aggregates (value_at v group) a b l.rest;
+lower-next : (group place : ℕ) (groups : List ℕ) (aggregates : List Aggr) (u v a b : Row) → value_at v place ≡ value_at u group
+    → Lower groups aggregates u a b → Lower (group ∷ groups) aggregates u a (value_at v place ∷ b)
+lower-next group place groups aggregates u v a b same l = record {
+  keys = λ i. same i ∷ (picked-behind (length groups) 0 (value_at v place) b ∙ l.keys) i;
+  rest = rest-further 0 (length groups) aggregates (value_at v place) a b l.rest;
 }
 
-lower-outcome : (group : ℕ) (groups : List ℕ) (aggregates : List Aggr) (u v : Row) → value_at v group ≡ value_at u group → (o p : Outcome Row)
+lower-outcome : (group place : ℕ) (groups : List ℕ) (aggregates : List Aggr) (u v : Row) → value_at v place ≡ value_at u group → (o p : Outcome Row)
     → AlikeOutcomes (Lower groups aggregates u) o p
-    → AlikeOutcomes (Lower (group ∷ groups) aggregates u) o (both (λ x xs. x ∷ xs) (Good (value_at v group)) p)
-lower-outcome group groups aggregates u v same (Good a) (Good b) l = lower-next group groups aggregates u v a b same l
-lower-outcome group groups aggregates u v same (Good a) (Bad g) l = absurd l
-lower-outcome group groups aggregates u v same (Bad f) (Good b) l = absurd l
-lower-outcome group groups aggregates u v same (Bad f) (Bad g) l = l
+    → AlikeOutcomes (Lower (group ∷ groups) aggregates u) o (both (λ x xs. x ∷ xs) (Good (value_at v place)) p)
+lower-outcome group place groups aggregates u v same (Good a) (Good b) l = lower-next group place groups aggregates u v a b same l
+lower-outcome group place groups aggregates u v same (Good a) (Bad g) l = absurd l
+lower-outcome group place groups aggregates u v same (Bad f) (Good b) l = absurd l
+lower-outcome group place groups aggregates u v same (Bad f) (Bad g) l = l
 
 itself : (o : Outcome Value) → AlikeOutcomes (λ x y. x ≡ y) o o
 itself (Good x) = refl
@@ -112,20 +112,17 @@ module _ (scopes : List (List Kind)) (unread : List ℕ) (u v : Row) (env other 
       (arguments-alike aggregates (λ k d h. form (suc k) d (omega (arith, h))) w.1)
 
   -- behind the columns by which rows are grouped
-  below-alike : (below : List Kind) → Shown below u v → (aggregates : List Aggr) → AggregatesForm scopes aggregates → WritableAggregates aggregates
+  below-alike : (below : List Kind) (before : ℕ) → Faces below before u v → (aggregates : List Aggr) → AggregatesForm scopes aggregates → WritableAggregates aggregates
       → (groups : List ℕ) → PlacesIn (length below) groups
       → AlikeOutcomes (Lower groups aggregates u) (arguments_on aggregates env u)
-      (items_values other (grouped below groups ++ arguments scopes unread aggregates) v)
-  below-alike below s aggregates form w [] within =
+      (items_values other (grouped before below groups ++ arguments scopes unread aggregates) v)
+  below-alike below before s aggregates form w [] within =
       alike-kept (Rest 0 0 aggregates) (Lower [] aggregates u) (λ a b r. record { keys = refl; rest = r }) (arguments_on aggregates env u)
       (items_values other (arguments scopes unread aggregates) v) (arguments-alike aggregates form w)
-  below-alike below s aggregates form w (group ∷ groups) within =
-      let none : 0 + group ≡ group = omega arith in
-      let same : value_at v group ≡ value_at u group =
-      sym (ap (value_at v) none) ∙ (shown-faces below u v s).there group (within 0 group (omega arith)) in
-      lower-outcome group groups aggregates u v same (arguments_on aggregates env u)
-      (items_values other (grouped below groups ++ arguments scopes unread aggregates) v)
-      (below-alike below s aggregates form w groups (λ k d h. within (suc k) d (omega (arith, h))))
+  below-alike below before s aggregates form w (group ∷ groups) within =
+      lower-outcome group (before + group) groups aggregates u v (s.there group (within 0 group (omega arith))) (arguments_on aggregates env u)
+      (items_values other (grouped before below groups ++ arguments scopes unread aggregates) v)
+      (below-alike below before s aggregates form w groups (λ k d h. within (suc k) d (omega (arith, h))))
 
 -- ---- all rows below
 
@@ -351,28 +348,28 @@ and_then-twice : {X Y Z : Type 0} (o : Outcome X) (f : X → Outcome Y) (g : Y �
 and_then-twice (Good x) f g = refl
 and_then-twice (Bad h) f g = refl
 
-module _ (below : List Kind) (outer : List (List Kind)) (unread : List ℕ) (env other : List Row) (carried : Carries outer unread env other) where
+module _ (below : List Kind) (before : ℕ) (outer : List (List Kind)) (unread : List ℕ) (env other : List Row) (carried : Carries outer unread env other) where
   classes_over-alike : (groups : List ℕ) (aggregates : List Aggr) → PlacesIn (length below) groups → AggregatesForm (below ∷ outer) aggregates
-      → WritableAggregates aggregates → (o p : Outcome Bag) → AlikeOutcomes (Along (Shown below)) o p
+      → WritableAggregates aggregates → (o p : Outcome Bag) → AlikeOutcomes (Along (Faces below before)) o p
       → AlikeOutcomes (Along (Faces (kinds_in below groups ++ map (λ (aggregate : Aggr). aggregate.kind) aggregates) 0))
       (and_then o (in_classes groups (map (λ (aggregate : Aggr). aggregate.function) aggregates) (arguments_on aggregates env)))
-      (and_then (and_then p (each (items_values other (grouped below groups ++ arguments (below ∷ outer) (0 ∷ unread) aggregates))))
+      (and_then (and_then p (each (items_values other (grouped before below groups ++ arguments (below ∷ outer) (before ∷ unread) aggregates))))
       (in_classes (range_with_len 0 (length groups)) (map (λ (aggregate : Aggr). aggregate.function) (aggregates_from (length groups) aggregates))
       (arguments_on (aggregates_from (length groups) aggregates) other)))
   classes_over-alike groups aggregates within form w o p s =
       let kinds = kinds_in below groups ++ map (λ (aggregate : Aggr). aggregate.kind) aggregates in
       let functions = map (λ (aggregate : Aggr). aggregate.function) aggregates in
       let f = arguments_on aggregates env in
-      let row = items_values other (grouped below groups ++ arguments (below ∷ outer) (0 ∷ unread) aggregates) in
+      let row = items_values other (grouped before below groups ++ arguments (below ∷ outer) (before ∷ unread) aggregates) in
       let numbers = aggregates_from (length groups) aggregates in
       let classes = in_classes (range_with_len 0 (length groups)) (map (λ (aggregate : Aggr). aggregate.function) numbers) (arguments_on numbers other) in
       subst (AlikeOutcomes (Along (Faces kinds 0)) (and_then o (in_classes groups functions f))) (sym (and_then-twice p (each row) classes))
-      (alike-and_then (Along (Shown below)) (Along (Faces kinds 0)) (in_classes groups functions f) (λ vs. and_then (each row vs) classes)
+      (alike-and_then (Along (Faces below before)) (Along (Faces kinds 0)) (in_classes groups functions f) (λ vs. and_then (each row vs) classes)
       (λ us vs r. alike-and_then (λ rows bs. Along (Grouped groups aggregates f) us bs) (Along (Faces kinds 0))
       (λ rows. each (class_row groups functions f us) (class_keys groups us)) classes
       (λ rows bs found. classes-alike (below ∷ outer) groups aggregates form other f below us bs found) (each f us) (each row vs)
-      (all_grouped groups aggregates f (Shown below) row
-      (λ u v own. below-alike (below ∷ outer) (0 ∷ unread) u v env other (shown-carried below u v outer unread env other own carried) below own aggregates form w groups within)
+      (all_grouped groups aggregates f (Faces below before) row
+      (λ u v own. below-alike (below ∷ outer) (before ∷ unread) u v env other (faces-carried below before u v outer unread env other own carried) below before own aggregates form w groups within)
       us vs r)) o p s)
 
   -- without groups and aggregates there is one row
@@ -395,7 +392,7 @@ module _ (below : List Kind) (outer : List (List Kind)) (unread : List ℕ) (env
       (subst (λ o. AlikeOutcomes (Along (Shown [])) o (Good ((Integer (pos (length (map (λ a. value_at a 0) (map (λ u. good_row (arguments_on (counted ∷ []) other u)) (class_of [] [] bs))))) ∷ []) ∷ []))) (sym own)
       ((refl, refl), tt))
 
-  none-alike : (o p : Outcome Bag) → AlikeOutcomes (Along (Shown below)) o p
+  none-alike : (o p : Outcome Bag) → AlikeOutcomes (Along (Faces below before)) o p
       → AlikeOutcomes (Along (Shown [])) (and_then o (in_classes [] [] (arguments_on [] env)))
       (and_then (and_then (and_then p (each (items_values other (unread_item ∷ [])))) (in_classes [] (agg.CountRows ∷ []) (arguments_on (counted ∷ []) other)))
       (each (items_values other (column 0 kinds.Integer ∷ []))))
@@ -405,10 +402,10 @@ module _ (below : List Kind) (outer : List (List Kind)) (unread : List ℕ) (env
   none-alike (Bad h) (Bad g) s = s
 
   pub groups-alike : (groups : List ℕ) (aggregates : List Aggr) → PlacesIn (length below) groups → AggregatesForm (below ∷ outer) aggregates
-      → WritableAggregates aggregates → (o p : Outcome Bag) → AlikeOutcomes (Along (Shown below)) o p
+      → WritableAggregates aggregates → (o p : Outcome Bag) → AlikeOutcomes (Along (Faces below before)) o p
       → AlikeOutcomes (Along (Shown (kinds_in below groups ++ map (λ (aggregate : Aggr). aggregate.kind) aggregates)))
       (and_then o (in_classes groups (map (λ (aggregate : Aggr). aggregate.function) aggregates) (arguments_on aggregates env)))
-      (and_then (and_then (and_then p (each (items_values other (or_unread unread_item (grouped below groups ++ arguments (below ∷ outer) (0 ∷ unread) aggregates)))))
+      (and_then (and_then (and_then p (each (items_values other (or_unread unread_item (grouped before below groups ++ arguments (below ∷ outer) (before ∷ unread) aggregates)))))
       (in_classes (range_with_len 0 (length groups)) (map (λ (aggregate : Aggr). aggregate.function) (or_counted groups (aggregates_from (length groups) aggregates)))
       (arguments_on (or_counted groups (aggregates_from (length groups) aggregates)) other)))
       (each (items_values other (or_unread (column 0 kinds.Integer) (columns_from 0 (kinds_in below groups ++ map (λ (aggregate : Aggr). aggregate.kind) aggregates))))))
@@ -418,7 +415,7 @@ module _ (below : List Kind) (outer : List (List Kind)) (unread : List ℕ) (env
       let numbers = aggregates_from 0 all in
       copied-alike other (map (λ (aggregate : Aggr). aggregate.kind) all) 0
       (and_then o (in_classes [] (map (λ (aggregate : Aggr). aggregate.function) all) (arguments_on all env)))
-      (and_then (and_then p (each (items_values other (arguments (below ∷ outer) (0 ∷ unread) all))))
+      (and_then (and_then p (each (items_values other (arguments (below ∷ outer) (before ∷ unread) all))))
       (in_classes [] (map (λ (aggregate : Aggr). aggregate.function) numbers) (arguments_on numbers other)))
       (classes_over-alike [] all within form w o p s)
   groups-alike (group ∷ groups) aggregates within form w o p s =
@@ -426,6 +423,6 @@ module _ (below : List Kind) (outer : List (List Kind)) (unread : List ℕ) (env
       let numbers = aggregates_from (length all) aggregates in
       copied-alike other (kinds_in below all ++ map (λ (aggregate : Aggr). aggregate.kind) aggregates) 0
       (and_then o (in_classes all (map (λ (aggregate : Aggr). aggregate.function) aggregates) (arguments_on aggregates env)))
-      (and_then (and_then p (each (items_values other (grouped below all ++ arguments (below ∷ outer) (0 ∷ unread) aggregates))))
+      (and_then (and_then p (each (items_values other (grouped before below all ++ arguments (below ∷ outer) (before ∷ unread) aggregates))))
       (in_classes (range_with_len 0 (length all)) (map (λ (aggregate : Aggr). aggregate.function) numbers) (arguments_on numbers other)))
       (classes_over-alike all aggregates within form w o p s)

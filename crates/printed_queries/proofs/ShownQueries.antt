@@ -1,5 +1,5 @@
 -- What the text of a query is read as has rows that show the query's, or the same faults.
-use Rattle.std.proofs.Common.{◌≡◌, ℕ, suc, ◌+◌, true, List, [], ◌∷◌, ◌++◌, length, map, take, All, Option, Some, None, option_map, refl, sym, ap, subst, ◌∙◌, true≢false, arith}
+use Rattle.std.proofs.Common.{◌≡◌, ℕ, suc, ◌+◌, Bool, true, false, cond, List, [], ◌∷◌, ◌++◌, length, length-append, map, take, All, Option, Some, None, option_map, refl, sym, ap, subst, ◌∙◌, true≢false, arith}
 use Rattle.std.specs.List.{range_with_len}
 use Rattle.perm_values.specs.Rows.{printed_cmp}
 use Rattle.perm_values.specs.declared.kind.Kind.{Kind}
@@ -14,7 +14,7 @@ use Rattle.bag_algebra.specs.Means.{kept, joined_rows, under, sub_value, is_some
 use Rattle.bag_algebra.specs.Outcome.{Outcome, Good, Bad, union, and_then, mapped, both, both_then, gather, each}
 use Rattle.bag_algebra.specs.TablesRead.{EachTable, EachSubTable}
 use Rattle.bag_algebra.specs.WellFormed.{WellFormed, SubsForm, sub_form, is_dependent}
-use Rattle.bag_algebra.specs.built.Openings.{rows-with_lists, meaning-Filter, meaning-Project, meaning-Join, meaning-Apply, meaning-Union, meaning-Intersect, meaning-Except, meaning-Distinct, meaning-Aggregate, meaning-Limit, kinds_of-Project, kinds_of-Union, kinds_of-Intersect, kinds_of-Except, kinds_of-Distinct, kinds_of-Limit}
+use Rattle.bag_algebra.specs.built.Openings.{rows-with_lists, meaning-Filter, meaning-Project, meaning-Join, meaning-Apply, meaning-Union, meaning-Intersect, meaning-Except, meaning-Distinct, meaning-Aggregate, meaning-Limit, kinds_of-Project, kinds_of-Join, kinds_of-Apply, kinds_of-Union, kinds_of-Intersect, kinds_of-Except, kinds_of-Distinct, kinds_of-Limit}
 use Rattle.bag_algebra.specs.built.Patterns.{BaseOf, FilterOf, ProjectOf, JoinOf, ApplyOf, UnionOf, IntersectOf, ExceptOf, DistinctOf, AggregateOf, LimitOf, ProvOf}
 use Rattle.bag_algebra.specs.declared.expr.Expr.{Expr}
 use Rattle.bag_algebra.specs.declared.expr.Item.{Item}
@@ -26,16 +26,18 @@ use Rattle.bag_algebra.specs.declared.query.Query.TheVariants.{Table, Single, Fi
 use Rattle.bag_algebra.specs.declared.query.SubKind.{SubKind}
 use Rattle.bag_algebra.specs.declared.query.SubKind.TheVariants as ask
 use Rattle.printed_queries.specs.Carried.{Carries, IsGiven}
-use Rattle.printed_queries.specs.Printed.{column, columns_from, unread_item, or_unread, unread_of, copied, idle, taken, asked_by, first_beside, printed_items, printed_condition, condition_subs, projected, lateral_kind, arguments, grouped, aggregates_from, or_counted, all_keys, printed, printed_subs, printed_answer}
+use Rattle.printed_queries.specs.Printed.{Readings, a_block, a_select, a_whole, apart_unless, listed, column, columns_from, unread_item, or_unread, unread_of, idle, taken, asked_by, first_beside, printed_items, printed_condition, condition_subs, projected, lateral_kind, arguments, grouped, aggregates_from, or_counted, in_groups, all_keys, readings, printed, printed_subs, printed_answer}
 use Rattle.printed_queries.specs.PrintedExpressions.{asked_in, printed_expr}
 use Rattle.printed_queries.specs.Writable.{WritableOption, WritableQuery, WritableSubs}
-use Rattle.query_texts.specs.Unused.{items_use}
+use Rattle.clause_texts.specs.Chains.{is_chained}
+use Rattle.clause_texts.specs.Unused.{items_use}
+use Rattle.expression_texts.specs.Words.{is_any}
 use Rattle.printed_queries.proofs.AskedNumbers.{get-below}
-use Rattle.printed_queries.proofs.ReadSublinks.{answers_of, value-alone, condition-read, items-shown}
-use Rattle.printed_queries.proofs.RelatedOutcomes.{Along, AlikeOutcomes, alike-and_then, alike-both_then, alike-each}
+use Rattle.printed_queries.proofs.ReadSublinks.{answers_of, value-alone, condition-read, items-marked, items-wide}
+use Rattle.printed_queries.proofs.RelatedOutcomes.{Along, AlikeOutcomes, alike-both_then}
 use Rattle.printed_queries.proofs.ShownGroups.{groups-alike}
-use Rattle.printed_queries.proofs.ShownNodes.{Paired, pair-faces, filter-alike, joined-alike, applied-alike}
-use Rattle.printed_queries.proofs.ShownRows.{Shown, shown_kinds, shown_width, Faces, faces-carried, shown-carried, alike-itself, alike-faces, items_values, copied-alike, copied-rows, mark, Wide, WideOutcome, alike-wide}
+use Rattle.printed_queries.proofs.ShownNodes.{Paired, pair-spans, filter-alike, joined-alike, applied-alike}
+use Rattle.printed_queries.proofs.ShownRows.{Shown, shown_kinds, shown_width, Faces, Spans, Ends, faces-carried, alike-itself, alike-ends, alike_spans-faces, items_values, copied-rows, mark, marked-alike, made-marked, wide-made, Wide, WideOutcome, alike-wide, alike_faces-wide}
 use Rattle.printed_queries.proofs.ShownSets.{union-alike, intersect-alike, except-alike, distinct-alike, limit-alike}
 
 -- ---- columns
@@ -44,9 +46,9 @@ kinds-columns : (place : ℕ) (kinds : List Kind) → map (λ (item : Item). ite
 kinds-columns place [] = refl
 kinds-columns place (kind ∷ kinds) = ap (λ more. kind ∷ more) (kinds-columns (suc place) kinds)
 
-kinds-listed : (place : ℕ) (kinds : List Kind) → map (λ (item : Item). item.kind) (or_unread unread_item (columns_from place kinds)) ≡ shown_kinds kinds
-kinds-listed place [] = refl
-kinds-listed place (kind ∷ kinds) = kinds-columns place (kind ∷ kinds)
+kinds-unread : (place : ℕ) (kinds : List Kind) → map (λ (item : Item). item.kind) (or_unread unread_item (columns_from place kinds)) ≡ shown_kinds kinds
+kinds-unread place [] = refl
+kinds-unread place (kind ∷ kinds) = kinds-columns place (kind ∷ kinds)
 
 kinds-counted : (all : List Kind) → map (λ (item : Item). item.kind) (or_unread (column 0 kinds.Integer) (columns_from 0 all)) ≡ shown_kinds all
 kinds-counted [] = refl
@@ -62,69 +64,186 @@ kinds-beside : (unread : List ℕ) (count : ℕ) (items : List Item)
 kinds-beside unread count [] = refl
 kinds-beside unread count (item ∷ items) = ap (λ more. item.kind ∷ more) (kinds-items unread (count + length (asked_in item.expr)) items)
 
+kinds-listed : (kinds : List Kind) (before : ℕ) (q : Query) → kinds_of (listed kinds before q) ≡ shown_kinds kinds
+kinds-listed kinds before q = kinds_of-Project q (or_unread unread_item (columns_from before kinds)) [] ∙ kinds-unread before kinds
+
+-- what is read has columns of these kinds, or one; and as many behind those that nothing reads
+pub record Widths (kinds : List Kind) (r : Readings) : Type 0 where
+  pub whole : kinds_of r.whole ≡ shown_kinds kinds
+  pub core : kinds_of r.core ≡ shown_kinds kinds
+  pub from : width_of r.from ≡ r.from_before + length kinds
+
+unread-width : (kinds : List Kind) → shown_width kinds ≡ unread_of kinds + length kinds
+unread-width [] = refl
+unread-width (kind ∷ kinds) = omega arith
+
+whole-widths : (kinds : List Kind) (whole : Query) → kinds_of whole ≡ shown_kinds kinds → Widths kinds (a_whole kinds whole)
+whole-widths kinds whole is = record { whole = is; core = kinds-listed kinds (unread_of kinds) whole; from = ap length is ∙ unread-width kinds }
+
+select-widths : (kinds : List Kind) (core : Query) → kinds_of core ≡ shown_kinds kinds → Widths kinds (a_select kinds core)
+select-widths kinds core is = record { whole = is; core = is; from = ap length is ∙ unread-width kinds }
+
+block-widths : (kinds : List Kind) (followed : Bool) (before : ℕ) (block : Query) → (followed ≡ true → width_of block ≡ before + length kinds)
+    → Widths kinds (a_block kinds followed before block)
+block-widths kinds true before block is =
+    record { whole = kinds-listed kinds before block; core = kinds-listed kinds before block; from = is refl }
+block-widths kinds false before block is =
+    record {
+      whole = kinds-listed kinds before block;
+      core = kinds-listed kinds before block;
+      from = ap length (kinds-listed kinds before block) ∙ unread-width kinds;
+    }
+
+apart-widths : (kinds : List Kind) (chained : Bool) (r : Readings) → Widths kinds r → Widths kinds (apart_unless kinds chained r)
+apart-widths kinds true r wide = wide
+apart-widths kinds false r wide = whole-widths kinds r.whole wide.whole
+
+any-width : (kinds : List Kind) → is_any (length kinds) ≡ true → shown_width kinds ≡ length kinds
+any-width [] is = absurd (true≢false (sym is))
+any-width (kind ∷ kinds) is = refl
+
+-- a left side and a right side that has columns
+pair-width : (before : ℕ) (left right : List Kind) → is_any (length right) ≡ true
+    → before + length left + shown_width right ≡ before + length (left ++ right)
+pair-width before left right is = omega (arith, any-width right is, length-append left right)
+
+both-width : (before : ℕ) (left right : List Kind) (first second : Query) → width_of first ≡ before + length left → kinds_of second ≡ shown_kinds right
+    → is_any (length right) ≡ true → length (kinds_of first ++ kinds_of second) ≡ before + length (left ++ right)
+both-width before left right first second wide is any =
+    length-append (kinds_of first) (kinds_of second) ∙ (λ i. wide i + length (is i)) ∙ pair-width before left right any
+
 module _ (source : ℕ → List Kind → Query) where
-  kinds-copied : (start : ℕ) (kinds : List Kind) (q : Query) → kinds_of (Project q (or_unread unread_item (columns_from start kinds)) []) ≡ shown_kinds kinds
-  kinds-copied start kinds q = kinds_of-Project q (or_unread unread_item (columns_from start kinds)) [] ∙ kinds-listed start kinds
-
-  -- what is read has the query's columns, or one
-  pub printed-kinds : (outer : List (List Kind)) (unread : List ℕ) (q : Query) → WritableQuery q → kinds_of (printed source outer unread q) ≡ shown_kinds (kinds_of q)
-  printed-kinds outer unread (Table id kinds) w = kinds-copied 0 kinds (source id kinds)
-  printed-kinds outer unread Single w = kinds-copied 0 [] Single
-  printed-kinds outer unread (BaseOf input places label) w = printed-kinds outer unread input w
-  printed-kinds outer unread (FilterOf input condition _ subs) w =
-      let asked = printed_subs source (kinds_of input ∷ outer) (0 ∷ unread) subs in
-      kinds-copied 0 (kinds_of input) (Filter (printed source outer unread input) (printed_condition (0 ∷ unread) asked condition) (condition_subs asked condition))
-  printed-kinds outer unread (ProjectOf input items _ subs) w =
-      let asked = printed_subs source (kinds_of input ∷ outer) (0 ∷ unread) subs in
+  pub readings-wide : (outer : List (List Kind)) (unread : List ℕ) (q : Query) → WritableQuery q → Widths (kinds_of q) (readings source outer unread q)
+  readings-wide outer unread (Table id kinds) w = select-widths kinds (listed kinds 0 (source id kinds)) (kinds-listed kinds 0 (source id kinds))
+  readings-wide outer unread Single w = select-widths [] (listed [] 0 Single) (kinds-listed [] 0 Single)
+  readings-wide outer unread (BaseOf input places label) w =
+      whole-widths (kinds_of input) (readings source outer unread input).whole (readings-wide outer unread input w).whole
+  readings-wide outer unread (FilterOf input condition _ subs) w =
+      let below = readings source outer unread input in
+      let asked = printed_subs source (kinds_of input ∷ outer) (below.from_before ∷ unread) subs in
+      block-widths (kinds_of input) false below.from_before
+      (Filter below.from (printed_condition (below.from_before ∷ unread) asked condition) (condition_subs asked condition)) (λ is. absurd (true≢false (sym is)))
+  readings-wide outer unread (ProjectOf input items _ subs) w =
+      let below = readings source outer unread input in
+      let asked = printed_subs source (kinds_of input ∷ outer) (below.before ∷ unread) subs in
       let spared = idle (items_use items) (length asked) in
-      kinds_of-Project (printed source outer unread input) (first_beside (0 ∷ unread) (length spared) items) (taken asked (spared ++ asked_by items))
-      ∙ kinds-beside (0 ∷ unread) (length spared) items
-  printed-kinds outer unread (JoinOf kind left right condition _ subs) w =
-      let before = unread_of (kinds_of left) in
-      let asked = printed_subs source ((kinds_of left ++ kinds_of right) ∷ outer) (before ∷ unread) subs in
-      kinds-copied before (kinds_of left ++ kinds_of right) (Join kind (printed source outer unread left) (printed source outer unread right)
-      (printed_condition (before ∷ unread) asked condition) (condition_subs asked condition))
-  printed-kinds outer unread (ApplyOf kind left right) w =
-      kinds-copied (unread_of (kinds_of left)) (kinds_of left ++ kinds_of right)
-      (Apply (lateral_kind kind) (printed source outer unread left) (printed source (kinds_of left ∷ outer) (0 ∷ unread) right))
-  printed-kinds outer unread (UnionOf all left right) w =
-      kinds_of-Union all (copied (kinds_of left) (printed source outer unread left)) (copied (kinds_of right) (printed source outer unread right))
-      ∙ kinds-copied 0 (kinds_of left) (printed source outer unread left)
-  printed-kinds outer unread (IntersectOf all left right) w =
-      kinds_of-Intersect all (copied (kinds_of left) (printed source outer unread left)) (copied (kinds_of right) (printed source outer unread right))
-      ∙ kinds-copied 0 (kinds_of left) (printed source outer unread left)
-  printed-kinds outer unread (ExceptOf all left right) w =
-      kinds_of-Except all (copied (kinds_of left) (printed source outer unread left)) (copied (kinds_of right) (printed source outer unread right))
-      ∙ kinds-copied 0 (kinds_of left) (printed source outer unread left)
-  printed-kinds outer unread (DistinctOf input) w =
-      kinds_of-Distinct (copied (kinds_of input) (printed source outer unread input)) ∙ kinds-copied 0 (kinds_of input) (printed source outer unread input)
-  printed-kinds outer unread (AggregateOf input groups aggregates) w =
+      select-widths (map (λ (item : Item). item.kind) items) (projected (below.before ∷ unread) asked items below.block)
+      (kinds_of-Project below.block (first_beside (below.before ∷ unread) (length spared) items) (taken asked (spared ++ asked_by items))
+      ∙ kinds-beside (below.before ∷ unread) (length spared) items)
+  readings-wide outer unread (JoinOf kind left right condition _ subs) w =
+      let both = kinds_of left ++ kinds_of right in
+      let below = readings source outer unread left in
+      let first = apart_unless (kinds_of left) (is_chained kind) below in
+      let second = (readings source outer unread right).whole in
+      let asked = printed_subs source ((kinds_of left ++ kinds_of right) ∷ outer) (first.from_before ∷ unread) subs in
+      let test = printed_condition (first.from_before ∷ unread) asked condition in
+      let asks = condition_subs asked condition in
+      let block = Join kind first.from second test asks in
+      apart-widths both (is_chained kind) (a_block both (is_any (width_of right)) first.from_before block)
+      (block-widths both (is_any (width_of right)) first.from_before block
+      (λ any. ap length (kinds_of-Join kind first.from second test asks)
+      ∙ both-width first.from_before (kinds_of left) (kinds_of right) first.from second
+      (apart-widths (kinds_of left) (is_chained kind) below (readings-wide outer unread left w.0)).from
+      (readings-wide outer unread right w.1).whole any))
+  readings-wide outer unread (ApplyOf kind left right) w =
+      let first = readings source outer unread left in
+      let second = (readings source (kinds_of left ∷ outer) (first.from_before ∷ unread) right).whole in
+      block-widths (kinds_of left ++ kinds_of right) (is_any (width_of right)) first.from_before (Apply (lateral_kind kind) first.from second)
+      (λ any. ap length (kinds_of-Apply (lateral_kind kind) first.from second)
+      ∙ both-width first.from_before (kinds_of left) (kinds_of right) first.from second (readings-wide outer unread left w.0).from
+      (readings-wide (kinds_of left ∷ outer) (first.from_before ∷ unread) right w.1).whole any)
+  readings-wide outer unread (UnionOf all left right) w =
+      let first = (readings source outer unread left).core in
+      let second = (readings source outer unread right).core in
+      whole-widths (kinds_of left) (Union all first second) (kinds_of-Union all first second ∙ (readings-wide outer unread left w.0).core)
+  readings-wide outer unread (IntersectOf all left right) w =
+      let first = (readings source outer unread left).core in
+      let second = (readings source outer unread right).core in
+      whole-widths (kinds_of left) (Intersect all first second) (kinds_of-Intersect all first second ∙ (readings-wide outer unread left w.0).core)
+  readings-wide outer unread (ExceptOf all left right) w =
+      let first = (readings source outer unread left).core in
+      let second = (readings source outer unread right).core in
+      whole-widths (kinds_of left) (Except all first second) (kinds_of-Except all first second ∙ (readings-wide outer unread left w.0).core)
+  readings-wide outer unread (DistinctOf input) w =
+      let below = (readings source outer unread input).core in
+      whole-widths (kinds_of input) (Distinct below) (kinds_of-Distinct below ∙ (readings-wide outer unread input w).core)
+  readings-wide outer unread (AggregateOf input groups aggregates) w =
       let own = kinds_of input in
+      let below = readings source outer unread input in
       let all = kinds_in own groups ++ map (λ (aggregate : Aggr). aggregate.kind) aggregates in
-      let below = Project (printed source outer unread input) (or_unread unread_item (grouped own groups ++ arguments (own ∷ outer) (0 ∷ unread) aggregates)) [] in
-      kinds_of-Project (Aggregate below (range_with_len 0 (length groups)) (or_counted groups (aggregates_from (length groups) aggregates)))
+      let inner = Project below.block (or_unread unread_item (grouped below.before own groups ++ arguments (own ∷ outer) (below.before ∷ unread) aggregates)) [] in
+      whole-widths all (in_groups (own ∷ outer) (below.before ∷ unread) below.before groups aggregates own below.block)
+      (kinds_of-Project (Aggregate inner (range_with_len 0 (length groups)) (or_counted groups (aggregates_from (length groups) aggregates)))
       (or_unread (column 0 kinds.Integer) (columns_from 0 all)) []
-      ∙ kinds-counted all
-  printed-kinds outer unread (LimitOf input keys count) w =
-      kinds_of-Limit (copied (kinds_of input) (printed source outer unread input)) (all_keys (length (kinds_of input)) keys) count
-      ∙ kinds-copied 0 (kinds_of input) (printed source outer unread input)
-  printed-kinds outer unread (ProvOf input) w = absurd w
+      ∙ kinds-counted all)
+  readings-wide outer unread (LimitOf input keys count) w =
+      let below = (readings source outer unread input).core in
+      let all = all_keys (length (kinds_of input)) keys in
+      whole-widths (kinds_of input) (Limit below all count) (kinds_of-Limit below all count ∙ (readings-wide outer unread input w).core)
+  readings-wide outer unread (ProvOf input) w = absurd w
 
--- ---- copies
+-- ---- what the rows are
 
-module _ (db : Database) (env : List Row) where
-  copied-shown : (kinds : List Kind) (start : ℕ) (q : Query) (o : Outcome Bag) → AlikeOutcomes (Along (Faces kinds start)) o (meaning q db env)
-      → AlikeOutcomes (Along (Shown kinds)) o (meaning (Project q (or_unread unread_item (columns_from start kinds)) []) db env)
-  copied-shown kinds start q o f =
-      let items = or_unread unread_item (columns_from start kinds) in
-      subst (AlikeOutcomes (Along (Shown kinds)) o) (sym (meaning-Project db env q items [])) (copied-alike env kinds start o (meaning q db env) f)
+module _ (db : Database) (other : List Row) where
+  -- what is read of a query with columns of these kinds, whose rows or faults are these
+  pub record ReadsAs (kinds : List Kind) (o : Outcome Bag) (r : Readings) : Type 0 where
+    pub whole : AlikeOutcomes (Along (Shown kinds)) o (meaning r.whole db other)
+    pub core : meaning r.core db other ≡ mapped (map (mark kinds)) o
+    pub block : AlikeOutcomes (Along (Faces kinds r.before)) o (meaning r.block db other)
+    pub from : AlikeOutcomes (Along (Ends kinds r.from_before)) o (meaning r.from db other)
 
-  -- a copy marks the rows
-  copied-marks : (kinds : List Kind) (q : Query) (o : Outcome Bag) → AlikeOutcomes (Along (Shown kinds)) o (meaning q db env)
-      → meaning (copied kinds q) db env ≡ mapped (map (mark kinds)) o
-  copied-marks kinds q o s =
-      meaning-Project db env q (or_unread unread_item (columns_from 0 kinds)) []
-      ∙ copied-rows env kinds 0 o (meaning q db env) (alike-faces kinds o (meaning q db env) s)
+  listed-marks : (kinds : List Kind) (before : ℕ) (q : Query) (o : Outcome Bag) → AlikeOutcomes (Along (Faces kinds before)) o (meaning q db other)
+      → meaning (listed kinds before q) db other ≡ mapped (map (mark kinds)) o
+  listed-marks kinds before q o f =
+      meaning-Project db other q (or_unread unread_item (columns_from before kinds)) [] ∙ copied-rows other kinds before o (meaning q db other) f
+
+  marks-shown : (kinds : List Kind) (o p : Outcome Bag) → WideOutcome (length kinds) o → p ≡ mapped (map (mark kinds)) o
+      → AlikeOutcomes (Along (Shown kinds)) o p
+  marks-shown kinds o p wide is = subst (AlikeOutcomes (Along (Shown kinds)) o) (sym is) (marked-alike kinds o wide)
+
+  shown-faced : (kinds : List Kind) (o p : Outcome Bag) → AlikeOutcomes (Along (Shown kinds)) o p → AlikeOutcomes (Along (Faces kinds (unread_of kinds))) o p
+  shown-faced kinds o p s = alike_spans-faces kinds (unread_of kinds) (unread_of kinds + length kinds) o p (alike-ends kinds o p s)
+
+  whole-reads : (kinds : List Kind) (o : Outcome Bag) (whole : Query) → AlikeOutcomes (Along (Shown kinds)) o (meaning whole db other)
+      → ReadsAs kinds o (a_whole kinds whole)
+  whole-reads kinds o whole s = record {
+    whole = s;
+    core = listed-marks kinds (unread_of kinds) whole o (shown-faced kinds o (meaning whole db other) s);
+    block = shown-faced kinds o (meaning whole db other) s;
+    from = alike-ends kinds o (meaning whole db other) s;
+  }
+
+  select-reads : (kinds : List Kind) (o : Outcome Bag) (core : Query) → WideOutcome (length kinds) o → meaning core db other ≡ mapped (map (mark kinds)) o
+      → ReadsAs kinds o (a_select kinds core)
+  select-reads kinds o core wide is =
+      let s = marks-shown kinds o (meaning core db other) wide is in
+      record {
+        whole = s;
+        core = is;
+        block = shown-faced kinds o (meaning core db other) s;
+        from = alike-ends kinds o (meaning core db other) s;
+      }
+
+  block-reads : (kinds : List Kind) (followed : Bool) (before : ℕ) (o : Outcome Bag) (block : Query)
+      → AlikeOutcomes (Along (Faces kinds before)) o (meaning block db other)
+      → (followed ≡ true → AlikeOutcomes (Along (Ends kinds before)) o (meaning block db other)) → ReadsAs kinds o (a_block kinds followed before block)
+  block-reads kinds followed before o block f ends =
+      let marks = listed-marks kinds before block o f in
+      let s = marks-shown kinds o (meaning (listed kinds before block) db other) (alike_faces-wide kinds before o (meaning block db other) f) marks in
+      record { whole = s; core = marks; block = f; from = either followed ends (alike-ends kinds o (meaning (listed kinds before block) db other) s) }
+    where
+      either : (b : Bool) → (b ≡ true → AlikeOutcomes (Along (Ends kinds before)) o (meaning block db other))
+          → AlikeOutcomes (Along (Ends kinds (unread_of kinds))) o (meaning (listed kinds before block) db other)
+          → AlikeOutcomes (Along (Ends kinds (cond b before (unread_of kinds)))) o (meaning (cond b block (listed kinds before block)) db other)
+      either true first second = first refl
+      either false first second = second
+
+  apart-reads : (kinds : List Kind) (chained : Bool) (o : Outcome Bag) (r : Readings) → ReadsAs kinds o r → ReadsAs kinds o (apart_unless kinds chained r)
+  apart-reads kinds true o r reads = reads
+  apart-reads kinds false o r reads = whole-reads kinds o r.whole reads.whole
+
+  reads-wide : (kinds : List Kind) (o : Outcome Bag) (r : Readings) → ReadsAs kinds o r → WideOutcome (length kinds) o
+  reads-wide kinds o r reads = alike-wide kinds o (meaning r.whole db other) reads.whole
 
 all-wide : (width : ℕ) (us : Bag) → All (λ (row : Row). length row ≡ width) us → Wide width us
 all-wide width [] h = tt
@@ -191,208 +310,229 @@ lateral-is join.Full e = absurd (true≢false (sym e))
 -- ---- queries
 
 module _ (source : ℕ → List Kind → Query) (db : Database) where
-  -- what the query means is shown by what is read
-  abbrev Reads : List (List Kind) → List ℕ → List Row → List Row → Query → Type 0
-  Reads outer unread env other q = AlikeOutcomes (Along (Shown (kinds_of q))) (meaning q db env) (meaning (printed source outer unread q) db other)
+  -- the kinds of a right side are those of the left side
+  right-core : (other : List Row) (left right : List Kind) (o : Outcome Bag) (r : Readings) → left ≡ right → ReadsAs db other right o r
+      → meaning r.core db other ≡ mapped (map (mark left)) o
+  right-core other left right o r same reads = reads.core ∙ ap (λ kinds. mapped (map (mark kinds)) o) (sym same)
 
-  module _ (outer : List (List Kind)) (unread : List ℕ) (env other : List Row) (carried : Carries outer unread env other) where
-    table-shown : (id : ℕ) (kinds : List Kind) → IsGiven source db id kinds → Reads outer unread env other (Table id kinds)
-    table-shown id kinds given =
-        copied-shown db other kinds 0 (source id kinds) (Good (db id))
-        (subst (AlikeOutcomes (Along (Faces kinds 0)) (Good (db id))) (sym (given.rows other)) (alike-itself kinds (Good (db id)) (all-wide (length kinds) (db id) given.wide)))
-
-    -- a copy of an input in the place of the input
-    input-marks : (q : Query) → Reads outer unread env other q
-        → meaning (copied (kinds_of q) (printed source outer unread q)) db other ≡ mapped (map (mark (kinds_of q))) (meaning q db env)
-    input-marks q s = copied-marks db other (kinds_of q) (printed source outer unread q) (meaning q db env) s
-
-    input-wide : (q : Query) → Reads outer unread env other q → WideOutcome (width_of q) (meaning q db env)
-    input-wide q s = alike-wide (kinds_of q) (meaning q db env) (meaning (printed source outer unread q) db other) s
-
-    right-marks : (left right : Query) → kinds_of left ≡ kinds_of right → Reads outer unread env other right
-        → meaning (copied (kinds_of right) (printed source outer unread right)) db other ≡ mapped (map (mark (kinds_of left))) (meaning right db env)
-    right-marks left right same s = input-marks right s ∙ ap (λ kinds. mapped (map (mark kinds)) (meaning right db env)) (sym same)
-
-    right-wide : (left right : Query) → kinds_of left ≡ kinds_of right → Reads outer unread env other right → WideOutcome (width_of left) (meaning right db env)
-    right-wide left right same s = subst (λ kinds. WideOutcome (length kinds) (meaning right db env)) (sym same) (input-wide right s)
+  right-wide : (other : List Row) (left right : List Kind) (o : Outcome Bag) (r : Readings) → left ≡ right → ReadsAs db other right o r → WideOutcome (length left) o
+  right-wide other left right o r same reads = subst (λ kinds. WideOutcome (length kinds) o) (sym same) (reads-wide db other right o r reads)
 
   mutual
-    pub rows-shown : (q : Query) (outer : List (List Kind)) (unread : List ℕ) (env other : List Row) → WellFormed outer q → WritableQuery q
-        → EachTable (IsGiven source db) q → Carries outer unread env other → Reads outer unread env other q
-    rows-shown (Table id kinds) outer unread env other form w given carried = table-shown outer unread env other carried id kinds given
-    rows-shown Single outer unread env other form w given carried =
-        copied-shown db other [] 0 Single (Good ([] ∷ [])) (alike-itself [] (Good ([] ∷ [])) (refl, tt))
-    rows-shown (BaseOf input places label) outer unread env other form w given carried =
+    pub rows-read : (q : Query) (outer : List (List Kind)) (unread : List ℕ) (env other : List Row) → WellFormed outer q → WritableQuery q
+        → EachTable (IsGiven source db) q → Carries outer unread env other
+        → ReadsAs db other (kinds_of q) (meaning q db env) (readings source outer unread q)
+    rows-read (Table id kinds) outer unread env other form w given carried =
+        let wide = all-wide (length kinds) (db id) given.wide in
+        select-reads db other kinds (Good (db id)) (listed kinds 0 (source id kinds)) wide
+        (listed-marks db other kinds 0 (source id kinds) (Good (db id))
+        (subst (AlikeOutcomes (Along (Faces kinds 0)) (Good (db id))) (sym (given.rows other)) (alike-itself kinds (Good (db id)) wide)))
+    rows-read Single outer unread env other form w given carried =
+        select-reads db other [] (Good ([] ∷ [])) (listed [] 0 Single) (refl, tt)
+        (listed-marks db other [] 0 Single (Good ([] ∷ [])) (alike-itself [] (Good ([] ∷ [])) (refl, tt)))
+    rows-read (BaseOf input places label) outer unread env other form w given carried =
         let rows : meaning (BaseOf input places label) db env ≡ meaning input db env = rows-with_lists _ _ in
-        subst (λ o. AlikeOutcomes (Along (Shown (kinds_of input))) o (meaning (printed source outer unread input) db other)) (sym rows)
-        (rows-shown input outer unread env other form.input w given carried)
-    rows-shown (FilterOf input condition shape subs) outer unread env other form w given carried =
-        let own = kinds_of input in
-        let asked = printed_subs source (own ∷ outer) (0 ∷ unread) subs in
+        let below = readings source outer unread input in
+        subst (λ o. ReadsAs db other (kinds_of input) o (a_whole (kinds_of input) below.whole)) (sym rows)
+        (whole-reads db other (kinds_of input) (meaning input db env) below.whole (rows-read input outer unread env other form.input w given carried).whole)
+    rows-read (FilterOf input condition shape subs) outer unread env other form w given carried =
+        let kinds = kinds_of input in
+        let below = readings source outer unread input in
+        let start = below.from_before in
+        let asked = printed_subs source (kinds ∷ outer) (start ∷ unread) subs in
         let c = condition_on condition env (sub_denote subs db env) in
-        let d = condition_on (printed_condition (0 ∷ unread) asked condition) other (subs_denote (condition_subs asked condition) db other) in
-        let below = Filter (printed source outer unread input) (printed_condition (0 ∷ unread) asked condition) (condition_subs asked condition) in
-        let rows : meaning (FilterOf input condition shape subs) db env ≡ and_then (meaning input db env) (gather (kept c)) = rows-with_lists _ _ in
-        let here = filter-alike own c d
-        (λ u v s. let carried_in = shown-carried own u v outer unread env other s carried in
-        condition-read db (own ∷ outer) (0 ∷ unread) u v env other carried_in subs asked
-        (subs-shown subs (own ∷ outer) (0 ∷ unread) u v env other form.subs w.2 given.1 carried_in) condition form.condition w.1)
-        (meaning input db env) (meaning (printed source outer unread input) db other)
-        (rows-shown input outer unread env other form.input w.0 given.0 carried) in
-        let read = subst (AlikeOutcomes (Along (Shown own)) (and_then (meaning input db env) (gather (kept c))))
-        (sym (meaning-Filter db other (printed source outer unread input) (printed_condition (0 ∷ unread) asked condition) (condition_subs asked condition))) here in
-        copied-shown db other own 0 below (meaning (FilterOf input condition shape subs) db env)
-        (subst (λ o. AlikeOutcomes (Along (Faces own 0)) o (meaning below db other)) (sym rows)
-        (alike-faces own (and_then (meaning input db env) (gather (kept c))) (meaning below db other) read))
-    rows-shown (ProjectOf input items shape subs) outer unread env other form w given carried =
-        let own = kinds_of input in
+        let test = printed_condition (start ∷ unread) asked condition in
+        let asks = condition_subs asked condition in
+        let d = condition_on test other (subs_denote asks db other) in
+        let block = Filter below.from test asks in
+        let own = and_then (meaning input db env) (gather (kept c)) in
+        let rows : meaning (FilterOf input condition shape subs) db env ≡ own = rows-with_lists _ _ in
+        let here = filter-alike (Ends kinds start) c d
+        (λ u v s. let carried_in = faces-carried kinds start u v outer unread env other s.faces carried in
+        condition-read db (kinds ∷ outer) (start ∷ unread) u v env other carried_in subs asked
+        (subs-shown subs (kinds ∷ outer) (start ∷ unread) u v env other form.subs w.2 given.1 carried_in) condition form.condition w.1)
+        (meaning input db env) (meaning below.from db other) (rows-read input outer unread env other form.input w.0 given.0 carried).from in
+        let read = subst (AlikeOutcomes (Along (Ends kinds start)) own) (sym (meaning-Filter db other below.from test asks)) here in
+        subst (λ o. ReadsAs db other kinds o (a_block kinds false start block)) (sym rows)
+        (block-reads db other kinds false start own block (alike_spans-faces kinds start (start + length kinds) own (meaning block db other) read)
+        (λ is. absurd (true≢false (sym is))))
+    rows-read (ProjectOf input items shape subs) outer unread env other form w given carried =
+        let below = readings source outer unread input in
+        let start = below.before in
+        let inner = kinds_of input in
         let kinds = map (λ (item : Item). item.kind) items in
-        let asked = printed_subs source (own ∷ outer) (0 ∷ unread) subs in
+        let asked = printed_subs source (inner ∷ outer) (start ∷ unread) subs in
         let spared = idle (items_use items) (length asked) in
-        let listed = first_beside (0 ∷ unread) (length spared) items in
+        let list = first_beside (start ∷ unread) (length spared) items in
         let asks = taken asked (spared ++ asked_by items) in
         let f = items_on items env (sub_denote subs db env) in
-        let g = items_on listed other (subs_denote asks db other) in
-        let rows : meaning (ProjectOf input items shape subs) db env ≡ and_then (meaning input db env) (each f) = rows-with_lists _ _ in
-        let here = alike-and_then (Along (Shown own)) (Along (Shown kinds)) (each f) (each g)
-        (λ us vs r. alike-each (Shown own) (Shown kinds) f g
-        (λ u v s. let carried_in = shown-carried own u v outer unread env other s carried in
-        items-shown db (own ∷ outer) (0 ∷ unread) u v env other carried_in subs asked
-        (subs-shown subs (own ∷ outer) (0 ∷ unread) u v env other form.subs w.2 given.1 carried_in) items form.items w.1) us vs r)
-        (meaning input db env) (meaning (printed source outer unread input) db other)
-        (rows-shown input outer unread env other form.input w.0 given.0 carried) in
-        subst (λ o. AlikeOutcomes (Along (Shown kinds)) o (meaning (projected (0 ∷ unread) asked items (printed source outer unread input)) db other)) (sym rows)
-        (subst (AlikeOutcomes (Along (Shown kinds)) (and_then (meaning input db env) (each f)))
-        (sym (meaning-Project db other (printed source outer unread input) listed asks)) here)
-    rows-shown (JoinOf kind left right condition shape subs) outer unread env other form w given carried =
+        let g = items_on list other (subs_denote asks db other) in
+        let own = and_then (meaning input db env) (each f) in
+        let rows : meaning (ProjectOf input items shape subs) db env ≡ own = rows-with_lists _ _ in
+        let marks = made-marked kinds (Faces inner start) f g
+        (λ u v s. let carried_in = faces-carried inner start u v outer unread env other s carried in
+        items-marked db (inner ∷ outer) (start ∷ unread) u v env other carried_in subs asked
+        (subs-shown subs (inner ∷ outer) (start ∷ unread) u v env other form.subs w.2 given.1 carried_in) items form.items w.1)
+        (meaning input db env) (meaning below.block db other) (rows-read input outer unread env other form.input w.0 given.0 carried).block in
+        subst (λ o. ReadsAs db other kinds o (a_select kinds (projected (start ∷ unread) asked items below.block))) (sym rows)
+        (select-reads db other kinds own (projected (start ∷ unread) asked items below.block)
+        (wide-made (length kinds) f (items-wide items env (sub_denote subs db env)) (meaning input db env))
+        (meaning-Project db other below.block list asks ∙ marks))
+    rows-read (JoinOf kind left right condition shape subs) outer unread env other form w given carried =
         let lefts = kinds_of left in
         let rights = kinds_of right in
-        let before = unread_of lefts in
-        let scopes = (lefts ++ rights) ∷ outer in
-        let asked = printed_subs source scopes (before ∷ unread) subs in
-        let first = printed source outer unread left in
-        let second = printed source outer unread right in
-        let test = printed_condition (before ∷ unread) asked condition in
+        let both = lefts ++ rights in
+        let below = readings source outer unread left in
+        let first = apart_unless lefts (is_chained kind) below in
+        let second = (readings source outer unread right).whole in
+        let start = first.from_before in
+        let scopes = both ∷ outer in
+        let asked = printed_subs source scopes (start ∷ unread) subs in
+        let test = printed_condition (start ∷ unread) asked condition in
         let asks = condition_subs asked condition in
-        let below = Join kind first second test asks in
+        let block = Join kind first.from second test asks in
         let c = condition_on condition env (sub_denote subs db env) in
         let d = condition_on test other (subs_denote asks db other) in
         let own = both_then (meaning left db env) (meaning right db env) (joined_rows kind c (width_of left) (width_of right)) in
         let rows : meaning (JoinOf kind left right condition shape subs) db env ≡ own = rows-with_lists _ _ in
-        let here = alike-both_then (Along (Shown lefts)) (Along (Shown rights)) (Along (Paired lefts rights))
-        (joined_rows kind c (width_of left) (width_of right)) (joined_rows kind d (shown_width lefts) (shown_width rights))
-        (λ us vs ws xs s r. joined-alike lefts rights c d
-        (λ u v y z a b. let carried_in = faces-carried (lefts ++ rights) before (u ++ y) (v ++ z) outer unread env other (pair-faces lefts rights u v y z a b) carried in
-        condition-read db scopes (before ∷ unread) (u ++ y) (v ++ z) env other carried_in subs asked
-        (subs-shown subs scopes (before ∷ unread) (u ++ y) (v ++ z) env other form.subs w.3 given.2 carried_in) condition form.condition w.2)
+        let here = alike-both_then (Along (Ends lefts start)) (Along (Shown rights)) (Along (Paired lefts rights start))
+        (joined_rows kind c (width_of left) (width_of right)) (joined_rows kind d (start + length lefts) (shown_width rights))
+        (λ us vs ws xs s r. joined-alike lefts rights start c d
+        (λ u v y z a b. let carried_in = faces-carried both start (u ++ y) (v ++ z) outer unread env other (pair-spans lefts rights start u v y z a b).faces carried in
+        condition-read db scopes (start ∷ unread) (u ++ y) (v ++ z) env other carried_in subs asked
+        (subs-shown subs scopes (start ∷ unread) (u ++ y) (v ++ z) env other form.subs w.3 given.2 carried_in) condition form.condition w.2)
         kind us vs ws xs s r)
-        (meaning left db env) (meaning first db other) (meaning right db env) (meaning second db other)
-        (rows-shown left outer unread env other form.left w.0 given.0 carried) (rows-shown right outer unread env other form.right w.1 given.1 carried) in
-        let read : AlikeOutcomes (Along (Faces (lefts ++ rights) before)) own (meaning below db other) =
-        subst (AlikeOutcomes (Along (Faces (lefts ++ rights) before)) own)
-        ((λ i. both_then (meaning first db other) (meaning second db other) (joined_rows kind d
-        (length (sym (printed-kinds source outer unread left w.0) i)) (length (sym (printed-kinds source outer unread right w.1) i))))
-        ∙ sym (meaning-Join db other kind first second test asks)) here in
-        copied-shown db other (lefts ++ rights) before below (meaning (JoinOf kind left right condition shape subs) db env)
-        (subst (λ o. AlikeOutcomes (Along (Faces (lefts ++ rights) before)) o (meaning below db other)) (sym rows) read)
-    rows-shown (ApplyOf kind left right) outer unread env other form w given carried =
+        (meaning left db env) (meaning first.from db other) (meaning right db env) (meaning second db other)
+        (apart-reads db other lefts (is_chained kind) (meaning left db env) below (rows-read left outer unread env other form.left w.0 given.0 carried)).from
+        (rows-read right outer unread env other form.right w.1 given.1 carried).whole in
+        let read : AlikeOutcomes (Along (Paired lefts rights start)) own (meaning block db other) =
+        subst (AlikeOutcomes (Along (Paired lefts rights start)) own)
+        ((λ i. both_then (meaning first.from db other) (meaning second db other) (joined_rows kind d
+        (sym (apart-widths lefts (is_chained kind) below (readings-wide source outer unread left w.0)).from i)
+        (length (sym (readings-wide source outer unread right w.1).whole i))))
+        ∙ sym (meaning-Join db other kind first.from second test asks)) here in
+        let fused = a_block both (is_any (width_of right)) start block in
+        subst (λ o. ReadsAs db other both o (apart_unless both (is_chained kind) fused)) (sym rows)
+        (apart-reads db other both (is_chained kind) own fused
+        (block-reads db other both (is_any (width_of right)) start own block
+        (alike_spans-faces both start (start + length lefts + shown_width rights) own (meaning block db other) read)
+        (λ any. subst (λ n. AlikeOutcomes (Along (Spans both start n)) own (meaning block db other)) (pair-width start lefts rights any) read)))
+    rows-read (ApplyOf kind left right) outer unread env other form w given carried =
         let lefts = kinds_of left in
         let rights = kinds_of right in
-        let before = unread_of lefts in
-        let first = printed source outer unread left in
-        let second = printed source (lefts ∷ outer) (0 ∷ unread) right in
-        let below = Apply (lateral_kind kind) first second in
+        let both = lefts ++ rights in
+        let first = readings source outer unread left in
+        let start = first.from_before in
+        let second = (readings source (lefts ∷ outer) (start ∷ unread) right).whole in
+        let block = Apply (lateral_kind kind) first.from second in
         let own = and_then (meaning left db env) (gather (λ u. mapped (under kind (width_of right) u) (meaning right db (u ∷ env)))) in
         let rows : meaning (ApplyOf kind left right) db env ≡ own = rows-with_lists _ _ in
-        let here = applied-alike lefts rights kind (λ u. meaning right db (u ∷ env)) (λ v. meaning second db (v ∷ other))
-        (λ u v s. rows-shown right (lefts ∷ outer) (0 ∷ unread) (u ∷ env) (v ∷ other) form.right w.1 given.1 (shown-carried lefts u v outer unread env other s carried))
-        (meaning left db env) (meaning first db other) (rows-shown left outer unread env other form.left w.0 given.0 carried) in
-        let read : AlikeOutcomes (Along (Faces (lefts ++ rights) before)) own (meaning below db other) =
-        subst (AlikeOutcomes (Along (Faces (lefts ++ rights) before)) own)
-        ((λ i. and_then (meaning first db other) (gather (λ v. mapped (under (sym (lateral-is kind form.dependent) i)
-        (length (sym (printed-kinds source (lefts ∷ outer) (0 ∷ unread) right w.1) i)) v) (meaning second db (v ∷ other)))))
-        ∙ sym (meaning-Apply db other (lateral_kind kind) first second)) here in
-        copied-shown db other (lefts ++ rights) before below (meaning (ApplyOf kind left right) db env)
-        (subst (λ o. AlikeOutcomes (Along (Faces (lefts ++ rights) before)) o (meaning below db other)) (sym rows) read)
-    rows-shown (UnionOf all left right) outer unread env other form w given carried =
-        let s = rows-shown left outer unread env other form.left_side w.0 given.0 carried in
-        let r = rows-shown right outer unread env other form.right_side w.1 given.1 carried in
-        let first = copied (kinds_of left) (printed source outer unread left) in
-        let second = copied (kinds_of right) (printed source outer unread right) in
-        let own = both (union_of all) (meaning left db env) (meaning right db env) in
+        let here = applied-alike lefts rights start kind (λ u. meaning right db (u ∷ env)) (λ v. meaning second db (v ∷ other))
+        (λ u v s. (rows-read right (lefts ∷ outer) (start ∷ unread) (u ∷ env) (v ∷ other) form.right w.1 given.1
+        (faces-carried lefts start u v outer unread env other s.faces carried)).whole)
+        (meaning left db env) (meaning first.from db other) (rows-read left outer unread env other form.left w.0 given.0 carried).from in
+        let read : AlikeOutcomes (Along (Paired lefts rights start)) own (meaning block db other) =
+        subst (AlikeOutcomes (Along (Paired lefts rights start)) own)
+        ((λ i. and_then (meaning first.from db other) (gather (λ v. mapped (under (sym (lateral-is kind form.dependent) i)
+        (length (sym (readings-wide source (lefts ∷ outer) (start ∷ unread) right w.1).whole i)) v) (meaning second db (v ∷ other)))))
+        ∙ sym (meaning-Apply db other (lateral_kind kind) first.from second)) here in
+        subst (λ o. ReadsAs db other both o (a_block both (is_any (width_of right)) start block)) (sym rows)
+        (block-reads db other both (is_any (width_of right)) start own block
+        (alike_spans-faces both start (start + length lefts + shown_width rights) own (meaning block db other) read)
+        (λ any. subst (λ n. AlikeOutcomes (Along (Spans both start n)) own (meaning block db other)) (pair-width start lefts rights any) read))
+    rows-read (UnionOf all left right) outer unread env other form w given carried =
+        let lefts = kinds_of left in
+        let first = readings source outer unread left in
+        let second = readings source outer unread right in
+        let s = rows-read left outer unread env other form.left_side w.0 given.0 carried in
+        let r = rows-read right outer unread env other form.right_side w.1 given.1 carried in
+        let one = meaning left db env in
+        let two = meaning right db env in
+        let own = both (union_of all) one two in
         let rows : meaning (UnionOf all left right) db env ≡ own = rows-with_lists _ _ in
-        let read = meaning-Union db other all first second
-        ∙ (λ i. both (union_of all) (input-marks outer unread env other carried left s i) (right-marks outer unread env other carried left right form.same_kinds r i)) in
-        subst (λ o. AlikeOutcomes (Along (Shown (kinds_of left))) o (meaning (Union all first second) db other)) (sym rows)
-        (subst (AlikeOutcomes (Along (Shown (kinds_of left))) own) (sym read)
-        (union-alike (kinds_of left) all (meaning left db env) (meaning right db env)
-        (input-wide outer unread env other carried left s) (right-wide outer unread env other carried left right form.same_kinds r)))
-    rows-shown (IntersectOf all left right) outer unread env other form w given carried =
-        let s = rows-shown left outer unread env other form.left_side w.0 given.0 carried in
-        let r = rows-shown right outer unread env other form.right_side w.1 given.1 carried in
-        let first = copied (kinds_of left) (printed source outer unread left) in
-        let second = copied (kinds_of right) (printed source outer unread right) in
-        let own = both (intersect_of all) (meaning left db env) (meaning right db env) in
+        let read = meaning-Union db other all first.core second.core
+        ∙ (λ i. both (union_of all) (s.core i) (right-core other lefts (kinds_of right) two second form.same_kinds r i)) in
+        subst (λ o. ReadsAs db other lefts o (a_whole lefts (Union all first.core second.core))) (sym rows)
+        (whole-reads db other lefts own (Union all first.core second.core)
+        (subst (AlikeOutcomes (Along (Shown lefts)) own) (sym read)
+        (union-alike lefts all one two (reads-wide db other lefts one first s) (right-wide other lefts (kinds_of right) two second form.same_kinds r))))
+    rows-read (IntersectOf all left right) outer unread env other form w given carried =
+        let lefts = kinds_of left in
+        let first = readings source outer unread left in
+        let second = readings source outer unread right in
+        let s = rows-read left outer unread env other form.left_side w.0 given.0 carried in
+        let r = rows-read right outer unread env other form.right_side w.1 given.1 carried in
+        let one = meaning left db env in
+        let two = meaning right db env in
+        let own = both (intersect_of all) one two in
         let rows : meaning (IntersectOf all left right) db env ≡ own = rows-with_lists _ _ in
-        let read = meaning-Intersect db other all first second
-        ∙ (λ i. both (intersect_of all) (input-marks outer unread env other carried left s i) (right-marks outer unread env other carried left right form.same_kinds r i)) in
-        subst (λ o. AlikeOutcomes (Along (Shown (kinds_of left))) o (meaning (Intersect all first second) db other)) (sym rows)
-        (subst (AlikeOutcomes (Along (Shown (kinds_of left))) own) (sym read)
-        (intersect-alike (kinds_of left) all (meaning left db env) (meaning right db env)
-        (input-wide outer unread env other carried left s) (right-wide outer unread env other carried left right form.same_kinds r)))
-    rows-shown (ExceptOf all left right) outer unread env other form w given carried =
-        let s = rows-shown left outer unread env other form.left_side w.0 given.0 carried in
-        let r = rows-shown right outer unread env other form.right_side w.1 given.1 carried in
-        let first = copied (kinds_of left) (printed source outer unread left) in
-        let second = copied (kinds_of right) (printed source outer unread right) in
-        let own = both (except_of all) (meaning left db env) (meaning right db env) in
+        let read = meaning-Intersect db other all first.core second.core
+        ∙ (λ i. both (intersect_of all) (s.core i) (right-core other lefts (kinds_of right) two second form.same_kinds r i)) in
+        subst (λ o. ReadsAs db other lefts o (a_whole lefts (Intersect all first.core second.core))) (sym rows)
+        (whole-reads db other lefts own (Intersect all first.core second.core)
+        (subst (AlikeOutcomes (Along (Shown lefts)) own) (sym read)
+        (intersect-alike lefts all one two (reads-wide db other lefts one first s) (right-wide other lefts (kinds_of right) two second form.same_kinds r))))
+    rows-read (ExceptOf all left right) outer unread env other form w given carried =
+        let lefts = kinds_of left in
+        let first = readings source outer unread left in
+        let second = readings source outer unread right in
+        let s = rows-read left outer unread env other form.left_side w.0 given.0 carried in
+        let r = rows-read right outer unread env other form.right_side w.1 given.1 carried in
+        let one = meaning left db env in
+        let two = meaning right db env in
+        let own = both (except_of all) one two in
         let rows : meaning (ExceptOf all left right) db env ≡ own = rows-with_lists _ _ in
-        let read = meaning-Except db other all first second
-        ∙ (λ i. both (except_of all) (input-marks outer unread env other carried left s i) (right-marks outer unread env other carried left right form.same_kinds r i)) in
-        subst (λ o. AlikeOutcomes (Along (Shown (kinds_of left))) o (meaning (Except all first second) db other)) (sym rows)
-        (subst (AlikeOutcomes (Along (Shown (kinds_of left))) own) (sym read)
-        (except-alike (kinds_of left) all (meaning left db env) (meaning right db env)
-        (input-wide outer unread env other carried left s) (right-wide outer unread env other carried left right form.same_kinds r)))
-    rows-shown (DistinctOf input) outer unread env other form w given carried =
-        let s = rows-shown input outer unread env other form w given carried in
-        let below = copied (kinds_of input) (printed source outer unread input) in
-        let rows : meaning (DistinctOf input) db env ≡ mapped once (meaning input db env) = rows-with_lists _ _ in
-        let read = meaning-Distinct db other below ∙ ap (mapped once) (input-marks outer unread env other carried input s) in
-        subst (λ o. AlikeOutcomes (Along (Shown (kinds_of input))) o (meaning (Distinct below) db other)) (sym rows)
-        (subst (AlikeOutcomes (Along (Shown (kinds_of input))) (mapped once (meaning input db env))) (sym read)
-        (distinct-alike (kinds_of input) (meaning input db env) (input-wide outer unread env other carried input s)))
-    rows-shown (AggregateOf input groups aggregates) outer unread env other form w given carried =
-        let own = kinds_of input in
-        let all = kinds_in own groups ++ map (λ (aggregate : Aggr). aggregate.kind) aggregates in
+        let read = meaning-Except db other all first.core second.core
+        ∙ (λ i. both (except_of all) (s.core i) (right-core other lefts (kinds_of right) two second form.same_kinds r i)) in
+        subst (λ o. ReadsAs db other lefts o (a_whole lefts (Except all first.core second.core))) (sym rows)
+        (whole-reads db other lefts own (Except all first.core second.core)
+        (subst (AlikeOutcomes (Along (Shown lefts)) own) (sym read)
+        (except-alike lefts all one two (reads-wide db other lefts one first s) (right-wide other lefts (kinds_of right) two second form.same_kinds r))))
+    rows-read (DistinctOf input) outer unread env other form w given carried =
+        let kinds = kinds_of input in
+        let below = readings source outer unread input in
+        let s = rows-read input outer unread env other form w given carried in
+        let own = mapped once (meaning input db env) in
+        let rows : meaning (DistinctOf input) db env ≡ own = rows-with_lists _ _ in
+        let read = meaning-Distinct db other below.core ∙ ap (mapped once) s.core in
+        subst (λ o. ReadsAs db other kinds o (a_whole kinds (Distinct below.core))) (sym rows)
+        (whole-reads db other kinds own (Distinct below.core)
+        (subst (AlikeOutcomes (Along (Shown kinds)) own) (sym read)
+        (distinct-alike kinds (meaning input db env) (reads-wide db other kinds (meaning input db env) below s))))
+    rows-read (AggregateOf input groups aggregates) outer unread env other form w given carried =
+        let inner = kinds_of input in
+        let below = readings source outer unread input in
+        let start = below.before in
+        let all = kinds_in inner groups ++ map (λ (aggregate : Aggr). aggregate.kind) aggregates in
         let functions = map (λ (aggregate : Aggr). aggregate.function) aggregates in
         let numbers = or_counted groups (aggregates_from (length groups) aggregates) in
-        let listed = or_unread unread_item (grouped own groups ++ arguments (own ∷ outer) (0 ∷ unread) aggregates) in
-        let first = printed source outer unread input in
-        let below = Project first listed [] in
-        let classes = Aggregate below (range_with_len 0 (length groups)) numbers in
+        let list = or_unread unread_item (grouped start inner groups ++ arguments (inner ∷ outer) (start ∷ unread) aggregates) in
+        let lower = Project below.block list [] in
+        let classes = Aggregate lower (range_with_len 0 (length groups)) numbers in
         let counting = in_classes (range_with_len 0 (length groups)) (map (λ (aggregate : Aggr). aggregate.function) numbers) (arguments_on numbers other) in
         let given_back = or_unread (column 0 kinds.Integer) (columns_from 0 all) in
-        let mine = and_then (meaning input db env) (in_classes groups functions (arguments_on aggregates env)) in
-        let rows : meaning (AggregateOf input groups aggregates) db env ≡ mine = rows-with_lists _ _ in
-        let here = groups-alike own outer unread env other carried groups aggregates form.groups form.aggregates w.1 (meaning input db env) (meaning first db other)
-        (rows-shown input outer unread env other form.input w.0 given carried) in
+        let own = and_then (meaning input db env) (in_classes groups functions (arguments_on aggregates env)) in
+        let rows : meaning (AggregateOf input groups aggregates) db env ≡ own = rows-with_lists _ _ in
+        let here = groups-alike inner start outer unread env other carried groups aggregates form.groups form.aggregates w.1 (meaning input db env)
+        (meaning below.block db other) (rows-read input outer unread env other form.input w.0 given carried).block in
         let read = meaning-Project db other classes given_back []
         ∙ ap (λ o. and_then o (each (items_values other given_back)))
-        (meaning-Aggregate db other below (range_with_len 0 (length groups)) numbers ∙ ap (λ o. and_then o counting) (meaning-Project db other first listed [])) in
-        subst (λ o. AlikeOutcomes (Along (Shown all)) o (meaning (Project classes given_back []) db other)) (sym rows)
-        (subst (AlikeOutcomes (Along (Shown all)) mine) (sym read) here)
-    rows-shown (LimitOf input keys count) outer unread env other form w given carried =
-        let s = rows-shown input outer unread env other form.input w given carried in
-        let below = copied (kinds_of input) (printed source outer unread input) in
-        let all = all_keys (length (kinds_of input)) keys in
+        (meaning-Aggregate db other lower (range_with_len 0 (length groups)) numbers ∙ ap (λ o. and_then o counting) (meaning-Project db other below.block list [])) in
+        subst (λ o. ReadsAs db other all o (a_whole all (Project classes given_back []))) (sym rows)
+        (whole-reads db other all own (Project classes given_back []) (subst (AlikeOutcomes (Along (Shown all)) own) (sym read) here))
+    rows-read (LimitOf input keys count) outer unread env other form w given carried =
+        let kinds = kinds_of input in
+        let below = readings source outer unread input in
+        let s = rows-read input outer unread env other form.input w given carried in
+        let all = all_keys (length kinds) keys in
         let own = mapped (λ bag. take count (sorted (printed_cmp keys) bag)) (meaning input db env) in
         let rows : meaning (LimitOf input keys count) db env ≡ own = rows-with_lists _ _ in
-        let read = meaning-Limit db other below all count
-        ∙ ap (mapped (λ bag. take count (sorted (printed_cmp all) bag))) (input-marks outer unread env other carried input s) in
-        subst (λ o. AlikeOutcomes (Along (Shown (kinds_of input))) o (meaning (Limit below all count) db other)) (sym rows)
-        (subst (AlikeOutcomes (Along (Shown (kinds_of input))) own) (sym read)
-        (limit-alike (kinds_of input) keys count form.keys (meaning input db env) (input-wide outer unread env other carried input s)))
-    rows-shown (ProvOf input) outer unread env other form w given carried = absurd w
+        let read = meaning-Limit db other below.core all count ∙ ap (mapped (λ bag. take count (sorted (printed_cmp all) bag))) s.core in
+        subst (λ o. ReadsAs db other kinds o (a_whole kinds (Limit below.core all count))) (sym rows)
+        (whole-reads db other kinds own (Limit below.core all count)
+        (subst (AlikeOutcomes (Along (Shown kinds)) own) (sym read)
+        (limit-alike kinds keys count form.keys (meaning input db env) (reads-wide db other kinds (meaning input db env) below s))))
+    rows-read (ProvOf input) outer unread env other form w given carried = absurd w
 
     subs-shown : {m : _} (subs : Row_of-Sublink m) (scopes : List (List Kind)) (unread : List ℕ) (u v : Row) (env other : List Row) → SubsForm scopes subs
         → WritableSubs subs → EachSubTable (IsGiven source db) subs → Carries scopes unread (u ∷ env) (v ∷ other)
@@ -400,7 +540,7 @@ module _ (source : ℕ → List Kind → Query) (db : Database) where
     subs-shown end_of-Sublink scopes unread u v env other form w given carried = refl
     subs-shown (more_of-Sublink kind tested query subs) scopes unread u v env other form w given carried =
         let operand = tested-same kind tested scopes (kinds_of query) form.fitting w.0 unread u v env other carried in
-        let rows = rows-shown query scopes unread (u ∷ env) (v ∷ other) form.query w.1 given.0 carried in
+        let rows = (rows-read query scopes unread (u ∷ env) (v ∷ other) form.query w.1 given.0 carried).whole in
         let here = ap (λ a. both_then a (meaning (printed source scopes unread query) db (v ∷ other)) (sub_value kind)) operand
         ∙ then-same (Along (Shown (kinds_of query))) (sub_value kind) (sub_value-same kind tested scopes (kinds_of query) form.fitting)
         (optional_value tested env u) (meaning query db (u ∷ env)) (meaning (printed source scopes unread query) db (v ∷ other)) rows in
@@ -414,7 +554,8 @@ nothing_carried level place kind e = absurd (omega (arith, get-below [] place ki
 pub answer-read : (source : ℕ → List Kind → Query) (db : Database) (q : Query) (kind : Kind) (more : List Kind) → kinds_of q ≡ kind ∷ more → WellFormed [] q
     → WritableQuery q → EachTable (IsGiven source db) q → meaning (printed_answer source q) db [] ≡ meaning q db []
 answer-read source db q kind more columns form w given =
-    copied-marks db [] (kinds_of q) (printed source [] [] q) (meaning q db []) (rows-shown source db q [] [] [] [] form w given nothing_carried)
+    let below = readings source [] [] q in
+    listed-marks db [] (kinds_of q) below.before below.block (meaning q db []) (rows-read source db q [] [] [] [] form w given nothing_carried).block
     ∙ ap (λ kinds. mapped (map (mark kinds)) (meaning q db [])) columns ∙ unmarked (meaning q db [])
   where
     same_rows : (us : Bag) → map (mark (kind ∷ more)) us ≡ us

@@ -10,9 +10,9 @@ use Rattle.bag_algebra.specs.Expressions.{value}
 use Rattle.bag_algebra.specs.Outcome.{Outcome, Good, Bad, and_then, mapped, both, each}
 use Rattle.bag_algebra.specs.declared.expr.Item.{Item}
 use Rattle.printed_queries.specs.Carried.{Carries}
-use Rattle.printed_queries.specs.Printed.{columns_from, unread_item, or_unread}
+use Rattle.printed_queries.specs.Printed.{columns_from, unread_item, unread_of, or_unread}
 use Rattle.printed_queries.proofs.AskedNumbers.{get-below}
-use Rattle.printed_queries.proofs.RelatedOutcomes.{Along, AlikeOutcomes}
+use Rattle.printed_queries.proofs.RelatedOutcomes.{Along, AlikeOutcomes, along-kept, alike-kept}
 
 -- as many values as kinds; where there are none, a row of one column stands for the row without any
 abbrev pub Shown : List Kind → Row → Row → Type 0
@@ -39,6 +39,22 @@ shown-faces (kind ∷ kinds) u v s = record {
   there = λ place h. let none : 0 + place ≡ place = omega arith in ap (value_at v) none ∙ ap (λ w. value_at w place) s.0;
 }
 
+-- and the other row has so many values
+pub record Spans (kinds : List Kind) (start total : ℕ) (u v : Row) : Type 0 where
+  pub faces : Faces kinds start u v
+  pub count : length v ≡ total
+
+-- the row's values stand at the end of the other row
+abbrev pub Ends : List Kind → ℕ → Row → Row → Type 0
+Ends kinds start = Spans kinds start (start + length kinds)
+
+spans-faces : (kinds : List Kind) (start total : ℕ) (u v : Row) → Spans kinds start total u v → Faces kinds start u v
+spans-faces kinds start total u v s = s.faces
+
+pub shown-ends : (kinds : List Kind) (u v : Row) → Shown kinds u v → Ends kinds (unread_of kinds) u v
+shown-ends [] u v s = record { faces = record { wide = ap length s.0; there = λ place h. absurd (omega (arith, h)) }; count = omega (arith, s.1) }
+shown-ends (kind ∷ kinds) u v s = record { faces = shown-faces (kind ∷ kinds) u v s; count = omega (arith, ap length s.0, s.1) }
+
 pub faces-itself : (kinds : List Kind) (u : Row) → length u ≡ length kinds → Faces kinds 0 u u
 faces-itself kinds u wide = record { wide = wide; there = λ place h. let none : 0 + place ≡ place = omega arith in ap (value_at u) none }
 
@@ -47,10 +63,6 @@ pub faces-carried : (kinds : List Kind) (start : ℕ) (u v : Row) (scopes : List
     → Carries scopes unread env other → Carries (kinds ∷ scopes) (start ∷ unread) (u ∷ env) (v ∷ other)
 faces-carried kinds start u v scopes unread env other f carried zero place kind h = f.there place (get-below kinds place kind h)
 faces-carried kinds start u v scopes unread env other f carried (suc level) place kind h = carried level place kind h
-
-pub shown-carried : (kinds : List Kind) (u v : Row) (scopes : List (List Kind)) (unread : List ℕ) (env other : List Row) → Shown kinds u v
-    → Carries scopes unread env other → Carries (kinds ∷ scopes) (0 ∷ unread) (u ∷ env) (v ∷ other)
-shown-carried kinds u v scopes unread env other s carried = faces-carried kinds 0 u v scopes unread env other (shown-faces kinds u v s) carried
 
 pub shown-length : (kinds : List Kind) (u v : Row) → Shown kinds u v → length u ≡ length kinds
 shown-length [] u v s = ap length s.0
@@ -150,6 +162,37 @@ wide-rows width own make turned [] w = tt
 wide-rows width own make turned (u ∷ us) w =
     wide-more width (make u) (each make us) (turned u w.0) (wide-rows width own make turned us w.1)
 
+-- what is made of each row, whatever the row
+each-wide : (width : ℕ) (make : Row → Outcome Row) → ((u : Row) → WideRow width (make u)) → (us : Bag) → WideOutcome width (each make us)
+each-wide width make turned [] = tt
+each-wide width make turned (u ∷ us) = wide-more width (make u) (each make us) (turned u) (each-wide width make turned us)
+
+pub wide-made : (width : ℕ) (make : Row → Outcome Row) → ((u : Row) → WideRow width (make u)) → (o : Outcome Bag) → WideOutcome width (and_then o (each make))
+wide-made width make turned (Good us) = each-wide width make turned us
+wide-made width make turned (Bad f) = tt
+
+-- what is made of each row is marked
+both-marked : (kinds : List Kind) (o : Outcome Row) (p : Outcome Bag)
+    → both (λ w ws. w ∷ ws) (mapped (mark kinds) o) (mapped (map (mark kinds)) p) ≡ mapped (map (mark kinds)) (both (λ w ws. w ∷ ws) o p)
+both-marked kinds (Good u) (Good us) = refl
+both-marked kinds (Good u) (Bad g) = refl
+both-marked kinds (Bad h) (Good us) = refl
+both-marked kinds (Bad h) (Bad g) = refl
+
+module _ (kinds : List Kind) (R : Row → Row → Type 0) (f g : Row → Outcome Row) (same : (u v : Row) → R u v → g v ≡ mapped (mark kinds) (f u)) where
+  each-marked : (us vs : Bag) → Along R us vs → each g vs ≡ mapped (map (mark kinds)) (each f us)
+  each-marked [] [] r = refl
+  each-marked [] (v ∷ vs) r = absurd r
+  each-marked (u ∷ us) [] r = absurd r
+  each-marked (u ∷ us) (v ∷ vs) r =
+      (λ i. both (λ w ws. w ∷ ws) (same u v r.0 i) (each-marked us vs r.1 i)) ∙ both-marked kinds (f u) (each f us)
+
+  pub made-marked : (o p : Outcome Bag) → AlikeOutcomes (Along R) o p → and_then p (each g) ≡ mapped (map (mark kinds)) (and_then o (each f))
+  made-marked (Good us) (Good vs) r = each-marked us vs r
+  made-marked (Good us) (Bad k) r = absurd r
+  made-marked (Bad h) (Good vs) r = absurd r
+  made-marked (Bad h) (Bad k) r = ap Bad (sym r)
+
 rows-themselves : (kinds : List Kind) (us : Bag) → Wide (length kinds) us → Along (Faces kinds 0) us us
 rows-themselves kinds [] w = tt
 rows-themselves kinds (u ∷ us) w = (faces-itself kinds u w.0, rows-themselves kinds us w.1)
@@ -188,17 +231,14 @@ alike_faces-wide kinds start (Good us) (Good vs) f = faces-wide kinds start us v
 alike_faces-wide kinds start (Good us) (Bad g) f = absurd f
 alike_faces-wide kinds start (Bad h) p f = tt
 
-rows-faces : (kinds : List Kind) (us vs : Bag) → Along (Shown kinds) us vs → Along (Faces kinds 0) us vs
-rows-faces kinds [] [] s = tt
-rows-faces kinds [] (v ∷ vs) s = absurd s
-rows-faces kinds (u ∷ us) [] s = absurd s
-rows-faces kinds (u ∷ us) (v ∷ vs) s = (shown-faces kinds u v s.0, rows-faces kinds us vs s.1)
+pub alike-ends : (kinds : List Kind) (o p : Outcome Bag) → AlikeOutcomes (Along (Shown kinds)) o p → AlikeOutcomes (Along (Ends kinds (unread_of kinds))) o p
+alike-ends kinds o p s = alike-kept (Along (Shown kinds)) (Along (Ends kinds (unread_of kinds)))
+    (λ us vs r. along-kept (Shown kinds) (Ends kinds (unread_of kinds)) (shown-ends kinds) us vs r) o p s
 
-pub alike-faces : (kinds : List Kind) (o p : Outcome Bag) → AlikeOutcomes (Along (Shown kinds)) o p → AlikeOutcomes (Along (Faces kinds 0)) o p
-alike-faces kinds (Good us) (Good vs) s = rows-faces kinds us vs s
-alike-faces kinds (Good us) (Bad g) s = absurd s
-alike-faces kinds (Bad f) (Good vs) s = absurd s
-alike-faces kinds (Bad f) (Bad g) s = s
+pub alike_spans-faces : (kinds : List Kind) (start total : ℕ) (o p : Outcome Bag) → AlikeOutcomes (Along (Spans kinds start total)) o p
+    → AlikeOutcomes (Along (Faces kinds start)) o p
+alike_spans-faces kinds start total o p s = alike-kept (Along (Spans kinds start total)) (Along (Faces kinds start))
+    (λ us vs r. along-kept (Spans kinds start total) (Faces kinds start) (spans-faces kinds start total) us vs r) o p s
 
 -- what is copied from rows that face the query's
 pub copied-alike : (env : List Row) (kinds : List Kind) (start : ℕ) (o p : Outcome Bag) → AlikeOutcomes (Along (Faces kinds start)) o p

@@ -1,12 +1,12 @@
--- What the text of a query is read as: a query in which each node is a core of its own.
-use Rattle.std.specs.Prelude.{ℕ, suc, ◌+◌, Bool, false, List, [], ◌∷◌, ◌++◌, map, length, Option, Some, None, option_map, slice_index_or, unwrap_or}
+-- What the text of a query is read as.
+use Rattle.std.specs.Prelude.{ℕ, suc, ◌+◌, Bool, false, cond, List, [], ◌∷◌, ◌++◌, map, length, Option, Some, None, option_map, slice_index_or, unwrap_or}
 use Rattle.std.specs.List.{flat_map, range_with_len}
 use Rattle.null_logic.specs.declared.operator.Operator.{Operator}
 use Rattle.null_logic.specs.declared.operator.Operator.TheVariants as op
 use Rattle.perm_values.specs.declared.key.Key.{Key}
 use Rattle.perm_values.specs.declared.kind.Kind.{Kind}
 use Rattle.perm_values.specs.declared.kind.Kind.TheVariants as kinds
-use Rattle.bag_algebra.specs.Kinds.{kinds_of, kind_in, kinds_in}
+use Rattle.bag_algebra.specs.Kinds.{kinds_of, kind_in, kinds_in, width_of}
 use Rattle.bag_algebra.specs.WellFormed.{column_kind}
 use Rattle.bag_algebra.specs.built.Patterns.{OpOf, ChainOf, CaseOf, IsNullOf, IsTruthOf, SameOf, BaseOf, FilterOf, ProjectOf, JoinOf, ApplyOf, UnionOf, IntersectOf, ExceptOf, DistinctOf, AggregateOf, LimitOf, ProvOf}
 use Rattle.bag_algebra.specs.declared.expr.Expr.{Expr, Row_of-Expr, more_of-Expr, end_of-Expr}
@@ -21,7 +21,9 @@ use Rattle.bag_algebra.specs.declared.query.Query.{Query, Row_of-Sublink, more_o
 use Rattle.bag_algebra.specs.declared.query.Query.TheVariants.{Table, Single, Filter, Project, Join, Apply, Union, Intersect, Except, Distinct, Aggregate, Limit}
 use Rattle.bag_algebra.specs.declared.query.SubKind.TheVariants.{Exists}
 use Rattle.bag_algebra.specs.declared.query.Sublink.{Sublink}
-use Rattle.query_texts.specs.Unused.{used_in, items_use, spare}
+use Rattle.expression_texts.specs.Words.{is_any}
+use Rattle.clause_texts.specs.Chains.{is_chained}
+use Rattle.clause_texts.specs.Unused.{used_in, items_use, spare}
 use Rattle.printed_queries.specs.PrintedExpressions.{asked_in, integer, printed_expr, beside}
 
 -- ---- columns
@@ -48,12 +50,60 @@ abbrev pub unread_of : List Kind → ℕ
 unread_of [] = 1
 unread_of (kind ∷ more) = 0
 
-abbrev pub copied : List Kind → Query → Query
-copied kinds q = Project q (or_unread unread_item (columns_from 0 kinds)) []
+-- ---- what the texts of a query are read as
 
--- the columns of a left side and a right side, behind what stands before the left side's
-abbrev pub paired : List Kind → List Kind → List Item
-paired left right = or_unread unread_item (columns_from (unread_of left) (left ++ right))
+-- the columns of these kinds, behind so many that nothing reads
+abbrev pub listed : List Kind → ℕ → Query → Query
+listed kinds before q = Project q (or_unread unread_item (columns_from before kinds)) []
+
+pub record Readings : Type 0 where
+  -- by itself
+  pub whole : Query
+  -- one SELECT that gives its columns
+  pub core : Query
+  -- FROM and WHERE that give its columns, and how many that nothing reads stand before these
+  pub block : Query
+  pub before : ℕ
+  -- FROM that gives its columns, and that joins may follow
+  pub from : Query
+  pub from_before : ℕ
+
+-- what is written by itself alone
+abbrev pub a_whole : List Kind → Query → Readings
+a_whole kinds whole = record {
+  whole = whole;
+  core = listed kinds (unread_of kinds) whole;
+  block = whole;
+  before = unread_of kinds;
+  from = whole;
+  from_before = unread_of kinds;
+}
+
+-- one SELECT
+abbrev pub a_select : List Kind → Query → Readings
+a_select kinds core = record {
+  whole = core;
+  core = core;
+  block = core;
+  before = unread_of kinds;
+  from = core;
+  from_before = unread_of kinds;
+}
+
+-- FROM and WHERE, and whether joins may follow
+abbrev pub a_block : List Kind → Bool → ℕ → Query → Readings
+a_block kinds followed before block = record {
+  whole = listed kinds before block;
+  core = listed kinds before block;
+  block = block;
+  before = before;
+  from = cond followed block (listed kinds before block);
+  from_before = cond followed before (unread_of kinds);
+}
+
+-- what is written by itself alone, unless it may stand in one FROM with others
+abbrev pub apart_unless : List Kind → Bool → Readings → Readings
+apart_unless kinds chained r = cond chained r (a_whole kinds r.whole)
 
 -- ---- the kinds of arguments
 
@@ -150,9 +200,10 @@ argument scopes unread (Some part) = record { expr = printed_expr unread 0 part;
 abbrev pub arguments : List (List Kind) → List ℕ → List Aggr → List Item
 arguments scopes unread aggregates = map (λ (aggregate : Aggr). argument scopes unread aggregate.argument) aggregates
 
-abbrev pub grouped : List Kind → List ℕ → List Item
-grouped below [] = []
-grouped below (place ∷ places) = column place (kind_in below place) ∷ grouped below places
+-- behind so many columns that nothing reads
+abbrev pub grouped : ℕ → List Kind → List ℕ → List Item
+grouped before below [] = []
+grouped before below (place ∷ places) = column (before + place) (kind_in below place) ∷ grouped before below places
 
 -- COUNT of rows has no argument
 abbrev pub argument_at : AggFn → ℕ → Option Expr
@@ -179,10 +230,10 @@ or_counted [] [] = counted ∷ []
 or_counted [] (aggregate ∷ aggregates) = aggregate ∷ aggregates
 or_counted (place ∷ places) aggregates = aggregates
 
-abbrev pub in_groups : List (List Kind) → List ℕ → List ℕ → List Aggr → List Kind → Query → Query
-in_groups scopes unread groups aggregates below q =
+abbrev pub in_groups : List (List Kind) → List ℕ → ℕ → List ℕ → List Aggr → List Kind → Query → Query
+in_groups scopes unread before groups aggregates below q =
     let numbered = aggregates_from (length groups) aggregates in
-    let inner = Project q (or_unread unread_item (grouped below groups ++ arguments scopes unread aggregates)) [] in
+    let inner = Project q (or_unread unread_item (grouped before below groups ++ arguments scopes unread aggregates)) [] in
     Project (Aggregate inner (range_with_len 0 (length groups)) (or_counted groups numbered))
     (or_unread (column 0 kinds.Integer) (columns_from 0 (kinds_in below groups ++ map (λ (aggregate : Aggr). aggregate.kind) aggregates))) []
 
@@ -196,45 +247,57 @@ all_keys count keys = keys ++ map (λ place. record { place = place; descending 
 -- under outer rows of these kinds, with so many columns before theirs that nothing reads; what a table's name stands for is given by
 -- its identity and its kinds
 abbrev mutual
-  pub printed : (ℕ → List Kind → Query) → List (List Kind) → List ℕ → Query → Query
-  printed source outer unread (Table id kinds) = copied kinds (source id kinds)
-  printed source outer unread Single = copied [] Single
-  printed source outer unread (BaseOf input places label) = printed source outer unread input
-  printed source outer unread (FilterOf input condition _ subs) =
-      let own = kinds_of input in
-      let asked = printed_subs source (own ∷ outer) (0 ∷ unread) subs in
-      copied own (Filter (printed source outer unread input) (printed_condition (0 ∷ unread) asked condition) (condition_subs asked condition))
-  printed source outer unread (ProjectOf input items _ subs) =
-      projected (0 ∷ unread) (printed_subs source (kinds_of input ∷ outer) (0 ∷ unread) subs) items (printed source outer unread input)
-  printed source outer unread (JoinOf kind left right condition _ subs) =
-      let before = unread_of (kinds_of left) in
-      let asked = printed_subs source ((kinds_of left ++ kinds_of right) ∷ outer) (before ∷ unread) subs in
-      Project (Join kind (printed source outer unread left) (printed source outer unread right)
-      (printed_condition (before ∷ unread) asked condition) (condition_subs asked condition)) (paired (kinds_of left) (kinds_of right)) []
-  printed source outer unread (ApplyOf kind left right) =
-      Project (Apply (lateral_kind kind) (printed source outer unread left) (printed source (kinds_of left ∷ outer) (0 ∷ unread) right))
-      (paired (kinds_of left) (kinds_of right)) []
-  printed source outer unread (UnionOf all left right) =
-      Union all (copied (kinds_of left) (printed source outer unread left)) (copied (kinds_of right) (printed source outer unread right))
-  printed source outer unread (IntersectOf all left right) =
-      Intersect all (copied (kinds_of left) (printed source outer unread left)) (copied (kinds_of right) (printed source outer unread right))
-  printed source outer unread (ExceptOf all left right) =
-      Except all (copied (kinds_of left) (printed source outer unread left)) (copied (kinds_of right) (printed source outer unread right))
-  printed source outer unread (DistinctOf input) = Distinct (copied (kinds_of input) (printed source outer unread input))
-  printed source outer unread (AggregateOf input groups aggregates) =
-      in_groups (kinds_of input ∷ outer) (0 ∷ unread) groups aggregates (kinds_of input) (printed source outer unread input)
-  printed source outer unread (LimitOf input keys count) =
-      Limit (copied (kinds_of input) (printed source outer unread input)) (all_keys (length (kinds_of input)) keys) count
-  printed source outer unread (ProvOf input) = printed source outer unread input
+  pub readings : (ℕ → List Kind → Query) → List (List Kind) → List ℕ → Query → Readings
+  readings source outer unread (Table id kinds) = a_select kinds (listed kinds 0 (source id kinds))
+  readings source outer unread Single = a_select [] (listed [] 0 Single)
+  readings source outer unread (BaseOf input places label) = a_whole (kinds_of input) (readings source outer unread input).whole
+  readings source outer unread (FilterOf input condition _ subs) =
+      let below = readings source outer unread input in
+      let asked = printed_subs source (kinds_of input ∷ outer) (below.from_before ∷ unread) subs in
+      a_block (kinds_of input) false below.from_before
+      (Filter below.from (printed_condition (below.from_before ∷ unread) asked condition) (condition_subs asked condition))
+  readings source outer unread (ProjectOf input items _ subs) =
+      let below = readings source outer unread input in
+      a_select (map (λ (item : Item). item.kind) items)
+      (projected (below.before ∷ unread) (printed_subs source (kinds_of input ∷ outer) (below.before ∷ unread) subs) items below.block)
+  readings source outer unread (JoinOf kind left right condition _ subs) =
+      let first = apart_unless (kinds_of left) (is_chained kind) (readings source outer unread left) in
+      let asked = printed_subs source ((kinds_of left ++ kinds_of right) ∷ outer) (first.from_before ∷ unread) subs in
+      apart_unless (kinds_of left ++ kinds_of right) (is_chained kind)
+      (a_block (kinds_of left ++ kinds_of right) (is_any (width_of right)) first.from_before
+      (Join kind first.from (readings source outer unread right).whole
+      (printed_condition (first.from_before ∷ unread) asked condition) (condition_subs asked condition)))
+  readings source outer unread (ApplyOf kind left right) =
+      let first = readings source outer unread left in
+      a_block (kinds_of left ++ kinds_of right) (is_any (width_of right)) first.from_before
+      (Apply (lateral_kind kind) first.from (readings source (kinds_of left ∷ outer) (first.from_before ∷ unread) right).whole)
+  readings source outer unread (UnionOf all left right) =
+      a_whole (kinds_of left) (Union all (readings source outer unread left).core (readings source outer unread right).core)
+  readings source outer unread (IntersectOf all left right) =
+      a_whole (kinds_of left) (Intersect all (readings source outer unread left).core (readings source outer unread right).core)
+  readings source outer unread (ExceptOf all left right) =
+      a_whole (kinds_of left) (Except all (readings source outer unread left).core (readings source outer unread right).core)
+  readings source outer unread (DistinctOf input) = a_whole (kinds_of input) (Distinct (readings source outer unread input).core)
+  readings source outer unread (AggregateOf input groups aggregates) =
+      let below = readings source outer unread input in
+      a_whole (kinds_of (AggregateOf input groups aggregates))
+      (in_groups (kinds_of input ∷ outer) (below.before ∷ unread) below.before groups aggregates (kinds_of input) below.block)
+  readings source outer unread (LimitOf input keys count) =
+      a_whole (kinds_of input) (Limit (readings source outer unread input).core (all_keys (length (kinds_of input)) keys) count)
+  readings source outer unread (ProvOf input) = a_whole (kinds_of (ProvOf input)) (readings source outer unread input).whole
 
   pub printed_subs : (ℕ → List Kind → Query) → List (List Kind) → List ℕ → {m : _} → Row_of-Sublink m → List Sublink
   printed_subs source outer unread end_of-Sublink = []
   printed_subs source outer unread (more_of-Sublink kind tested query subs) =
-      record { kind = kind; tested = option_map (printed_expr unread 0) tested; query = printed source outer unread query }
+      record { kind = kind; tested = option_map (printed_expr unread 0) tested; query = (readings source outer unread query).whole }
       ∷ printed_subs source outer unread subs
+
+-- by itself
+abbrev pub printed : (ℕ → List Kind → Query) → List (List Kind) → List ℕ → Query → Query
+printed source outer unread q = (readings source outer unread q).whole
 
 -- ---- answers
 
 -- a closed query, with the columns that it gives
 abbrev pub printed_answer : (ℕ → List Kind → Query) → Query → Query
-printed_answer source q = copied (kinds_of q) (printed source [] [] q)
+printed_answer source q = let below = readings source [] [] q in listed (kinds_of q) below.before below.block

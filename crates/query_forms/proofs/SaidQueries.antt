@@ -1,11 +1,11 @@
 -- What the form of a query says is its text.
-use Rattle.std.proofs.Common.{◌≡◌, ◌∙◌, ℕ, suc, ◌+◌, Bool, true, false, List, [], ◌∷◌, ◌++◌, map, refl, sym, ap, ap₂, append_assoc, append-nil, arith}
+use Rattle.std.proofs.Common.{◌≡◌, ◌∙◌, ℕ, suc, ◌+◌, Bool, true, false, List, [], ◌∷◌, ◌++◌, map, refl, sym, ap, ap₂, append_assoc, append-nil, arith, true≢false}
 use Rattle.std.specs.Prelude.{codes, length, cond, Option, Some, None}
 use Rattle.null_logic.specs.declared.compare.Compare.{Compare}
 use Rattle.null_logic.specs.declared.compare.Compare.TheVariants as compare
 use Rattle.perm_values.specs.declared.key.Key.{Key}
 use Rattle.perm_values.specs.declared.kind.Kind.TheVariants as kinds
-use Rattle.bag_algebra.specs.Kinds.{width_of}
+use Rattle.bag_algebra.specs.Kinds.{kinds_of, width_of}
 use Rattle.bag_algebra.specs.built.Patterns.{BaseOf, FilterOf, ProjectOf, JoinOf, ApplyOf, UnionOf, IntersectOf, ExceptOf, DistinctOf, AggregateOf, LimitOf, ProvOf}
 use Rattle.bag_algebra.specs.declared.expr.Expr.{Expr}
 use Rattle.bag_algebra.specs.declared.expr.Item.{Item}
@@ -16,33 +16,40 @@ use Rattle.bag_algebra.specs.declared.query.Query.{Query, Row_of-Sublink, more_o
 use Rattle.bag_algebra.specs.declared.query.Query.TheVariants.{Table, Single}
 use Rattle.bag_algebra.specs.declared.query.SubKind.{SubKind}
 use Rattle.bag_algebra.specs.declared.query.SubKind.TheVariants as ask
+use Rattle.sql_plans.specs.Levels.{expression}
 use Rattle.tree_texts.specs.FormPlans as plan
 use Rattle.tree_texts.specs.Forms as f
-use Rattle.tree_texts.specs.Forms.{ExprForm, FromForm, CoreForm, QueryForm, JoinForms}
-use Rattle.tree_texts.specs.Phrases.{maybe_distinct, grouped, ordered}
-use Rattle.query_texts.specs.Names.{Naming, naming, own, deeper, names_of, outermost}
+use Rattle.tree_texts.specs.Forms.{ExprForm, FromForm, ConditionForm, CoreForm, QueryForm, JoinForms}
+use Rattle.tree_texts.specs.Phrases.{maybe_distinct, joining, joining_lateral, grouped, ordered}
+use Rattle.query_texts.specs.QueryTexts as texts
+use Rattle.query_texts.specs.QueryTexts.{Written, written, select, sub_texts, answer_bytes}
+use Rattle.clause_texts.specs.Chains.{is_chained}
+use Rattle.clause_texts.specs.Names.{Naming, naming, own, deeper, names_of, outermost}
 use Rattle.query_forms.specs.ShownExpressions.{shown_expr, beside}
-use Rattle.query_forms.specs.ShownQueries.{own_columns, Listed, listed, one, columns, selected, alone, over, first_source, copied, of_table, tested_by, projected, joined, stays, in_groups, below_groups, aggregates_from, arguments, grouped_columns, key_form, any_of, all_of, tested_part, asked, shown, sub_forms, called, shown_answer}
-use Rattle.query_texts.specs.Unused.{used_in, items_use, spare}
-use Rattle.query_texts.specs.declared.tables.TableNames.{TableNames}
+use Rattle.query_forms.specs.ShownQueries.{own_columns, Listed, listed, one, columns, selected, alone, Chain, sources, just, then_joins, joined_to, source_name, Framed, copied, a_whole, a_select, a_block, apart_unless, of_table, tested_by, projected, joined, stays, in_groups, below_groups, aggregates_from, arguments, grouped_columns, key_form, any_of, all_of, tested_part, asked, framed, sub_forms, called, shown_answer}
+use Rattle.clause_texts.specs.Unused.{used_in, items_use, spare}
+use Rattle.clause_texts.specs.declared.tables.TableNames.{TableNames}
 use Rattle.query_forms.specs.Pieces.{said, expr_said, query_said}
-use Rattle.query_texts.specs.QueryTexts.{as_text, item_text, unread_text, columns_text, named_items, over_text, copied_text, table_text, beside_text, beside_joined, beside_lateral, condition_text, expr_items, projected_text, set_text, below_text, groups_text, any_text, all_text, part_text, asked_text, query_bytes, sub_texts, answer_bytes, key_texts, called_items}
-use Rattle.expression_texts.specs.Words.{name_text, number_text, reference_text, unless_none}
+use Rattle.clause_texts.specs.ClauseTexts.{as_text, item_text, unread_text, columns_text, named_items, over_text, table_text, beside_text, beside_joined, beside_lateral, source_text, condition_text, where_text, expr_items, projected_text, projecting_text, set_text, below_text, groups_text, any_text, all_text, part_text, asked_text, key_texts, called_items}
+use Rattle.expression_texts.specs.Words.{is_any, name_text, number_text, reference_text, unless_none}
 use Rattle.query_forms.proofs.SaidClauses.{beside_said, grouped_said, order_said, answer_order_said, called_said}
 use Rattle.query_forms.proofs.SaidExpressions.{expression_said}
 use Rattle.query_forms.proofs.SaidLists.{list_said, items_said, listed_said, items_append, one_said, columns_length, columns_said, names_said, groups_said, arguments_said, aggregates_said}
 
 -- ---- SELECT
 
--- without a condition and groups
-simple_said : (distinct : Bool) (list : Listed) (origin : FromForm) → query_said (alone (selected distinct list origin f.no_condition []))
-    ≡ codes "SELECT " ++ (said (maybe_distinct distinct) ++ (list_said list ++ said (plan.sources origin)))
-simple_said distinct list origin =
-    append-nil (said (plan.core (selected distinct list origin f.no_condition [])))
-    ∙ ap (λ t. codes "SELECT " ++ (said (maybe_distinct distinct) ++ (list_said list ++ t))) (append-nil (said (plan.sources origin)))
+-- what a SELECT without groups says
+select_said : (distinct : Bool) (list : Listed) (origin : FromForm) (test : ConditionForm) → said (plan.core (selected distinct list origin test []))
+    ≡ codes "SELECT " ++ (said (maybe_distinct distinct) ++ (list_said list ++ (said (plan.sources origin) ++ said (plan.where_clause test))))
+select_said distinct list origin test =
+    ap (λ t. codes "SELECT " ++ (said (maybe_distinct distinct) ++ (list_said list ++ (said (plan.sources origin) ++ t))))
+    (append-nil (said (plan.where_clause test)))
 
-over_said : (q : QueryForm) → said (plan.sources (over q)) ≡ over_text (query_said q)
-over_said q = ap (λ t. codes "FROM ( " ++ t) (append-nil (query_said q ++ codes ") AS \"t1\" "))
+alone_said : (core : CoreForm) → query_said (alone core) ≡ said (plan.core core)
+alone_said core = append-nil (said (plan.core core))
+
+just_said : (q : QueryForm) → said (plan.sources (sources (just q))) ≡ over_text (query_said q)
+just_said q = ap (λ t. codes "FROM ( " ++ t) (append-nil (query_said q ++ codes ") AS \"t\" "))
 
 nested_said : (q : QueryForm) → said (plan.nested q) ≡ query_said q
 nested_said (f.one first keys number) = refl
@@ -77,9 +84,6 @@ module _ (prefix : List ℕ) where
       ∙ ap (λ word. unread_text out.prefix word (length (columns prefix count)) ++ items_said out 0 (map expr_said (columns prefix count))) one_said
       ∙ ap₂ (λ n t. unread_text out.prefix (codes "1 ") n ++ t) (columns_length prefix 1 count) (columns_said prefix out 0 count)
 
-  copied_said : (out : Naming) (count : ℕ) (q : QueryForm) → said (plan.core (copied prefix out count q)) ≡ copied_text prefix out count (query_said q)
-  copied_said out count q = ap₂ (λ l t. codes "SELECT " ++ (l ++ t)) (columns_list out count) (append-nil (said (plan.sources (over q))) ∙ over_said q)
-
   condition_said : (forms : List ExprForm) (condition : Expr) → expr_said (tested_by prefix forms condition) ≡ condition_text prefix (map expr_said forms) condition
   condition_said forms condition =
       beside_said kinds.Boolean (spare (used_in condition) 0 forms) (shown_expr prefix forms condition)
@@ -105,44 +109,52 @@ module _ (prefix : List ℕ) where
       ∙ ap (λ t. t ++ (as_text out 0 ++ expr_items prefix out (map expr_said forms) 1 items))
       (beside_said item.kind unused (shown_expr prefix forms item.expr) ∙ ap (beside_text item.kind (map expr_said unused)) (expression_said prefix forms item.expr))
 
--- ---- clauses put together
+-- ---- joins
 
-filter_regroup : (l s c : List ℕ) → (codes "SELECT " ++ (l ++ (s ++ ((codes "WHERE " ++ c) ++ [])))) ++ [] ≡ ((codes "SELECT " ++ l) ++ s) ++ (codes "WHERE " ++ c)
-filter_regroup l s c =
-    append-nil (codes "SELECT " ++ (l ++ (s ++ ((codes "WHERE " ++ c) ++ [])))) ∙ ap (λ t. codes "SELECT " ++ (l ++ (s ++ t))) (append-nil (codes "WHERE " ++ c))
-    ∙ ap (λ t. codes "SELECT " ++ t) (sym (append_assoc l s (codes "WHERE " ++ c)))
+joins_said : (more last : JoinForms) → said (plan.joins (then_joins more last)) ≡ said (plan.joins more) ++ said (plan.joins last)
+joins_said f.no_joins last = refl
+joins_said (f.a_join kind right on more) last =
+    ap (λ t. said (joining kind (plan.source right) (expression (plan.expr on))) ++ t) (joins_said more last)
+    ∙ sym (append_assoc (said (joining kind (plan.source right) (expression (plan.expr on)))) (said (plan.joins more)) (said (plan.joins last)))
+joins_said (f.a_lateral stays q name more) last =
+    ap (λ t. said (joining_lateral stays (plan.query q) name) ++ t) (joins_said more last)
+    ∙ sym (append_assoc (said (joining_lateral stays (plan.query q) name)) (said (plan.joins more)) (said (plan.joins last)))
 
-join_regroup : (word q on : List ℕ) → (word ++ ((q ++ codes ") AS \"t2\" ") ++ (codes "ON " ++ on))) ++ [] ≡ (word ++ (q ++ codes ") AS \"t2\" ON ")) ++ on
-join_regroup word q on =
-    append-nil (word ++ ((q ++ codes ") AS \"t2\" ") ++ (codes "ON " ++ on)))
-    ∙ ap (λ t. word ++ t) (append_assoc q (codes ") AS \"t2\" ") (codes "ON " ++ on) ∙ sym (append_assoc q (codes ") AS \"t2\" ON ") on))
-    ∙ sym (append_assoc word (q ++ codes ") AS \"t2\" ON ") on)
+chain_said : (chain : Chain) (last : JoinForms)
+    → said (plan.sources (sources (joined_to chain last))) ≡ said (plan.sources (sources chain)) ++ said (plan.joins last)
+chain_said chain last =
+    let first = said (plan.source chain.first) in
+    ap (λ t. codes "FROM " ++ (first ++ t)) (joins_said chain.more last)
+    ∙ ap (λ t. codes "FROM " ++ t) (sym (append_assoc first (said (plan.joins chain.more)) (said (plan.joins last))))
 
--- a join behind its first source
-join_said : (kind : JoinKind) (right : QueryForm) (on : ExprForm) → said (plan.joins (f.a_join (joined kind) (f.subquery right (codes "t2")) on f.no_joins))
-    ≡ beside_joined kind (query_said right) ++ expr_said on
-join_said join.Inner right on = join_regroup (codes "JOIN ( ") (query_said right) (expr_said on)
-join_said join.Left right on = join_regroup (codes "LEFT JOIN ( ") (query_said right) (expr_said on)
-join_said join.Right right on = join_regroup (codes "RIGHT JOIN ( ") (query_said right) (expr_said on)
-join_said join.Full right on = join_regroup (codes "FULL JOIN ( ") (query_said right) (expr_said on)
+join_regroup : (word q name on : List ℕ) → (word ++ ((q ++ name) ++ (codes "ON " ++ on))) ++ [] ≡ (word ++ (q ++ (name ++ codes "ON "))) ++ on
+join_regroup word q name on =
+    append-nil (word ++ ((q ++ name) ++ (codes "ON " ++ on)))
+    ∙ ap (λ t. word ++ t) (append_assoc q name (codes "ON " ++ on)
+    ∙ ap (λ t. q ++ t) (sym (append_assoc name (codes "ON ") on)) ∙ sym (append_assoc q (name ++ codes "ON ") on))
+    ∙ sym (append_assoc word (q ++ (name ++ codes "ON ")) on)
 
-lateral_said : (kind : JoinKind) (right : QueryForm) → said (plan.joins (f.a_lateral (stays kind) right (codes "t2") f.no_joins))
-    ≡ beside_lateral kind (query_said right)
-lateral_said join.Inner right = append-nil (codes "CROSS JOIN LATERAL ( " ++ (query_said right ++ codes ") AS \"t2\" "))
-lateral_said join.Left right =
-    append-nil (codes "LEFT JOIN LATERAL ( " ++ ((query_said right ++ codes ") AS \"t2\" ") ++ codes "ON TRUE "))
-    ∙ ap (λ t. codes "LEFT JOIN LATERAL ( " ++ t) (append_assoc (query_said right) (codes ") AS \"t2\" ") (codes "ON TRUE "))
-lateral_said join.Right right = append-nil (codes "CROSS JOIN LATERAL ( " ++ (query_said right ++ codes ") AS \"t2\" "))
-lateral_said join.Full right = append-nil (codes "CROSS JOIN LATERAL ( " ++ (query_said right ++ codes ") AS \"t2\" "))
+-- a join behind other sources
+join_said : (kind : JoinKind) (number : ℕ) (right : QueryForm) (on : ExprForm)
+    → said (plan.joins (f.a_join (joined kind) (f.subquery right (source_name number)) on f.no_joins)) ≡ beside_joined kind number (query_said right) ++ expr_said on
+join_said join.Inner number right on = join_regroup (codes "JOIN ( ") (query_said right) (source_text number) (expr_said on)
+join_said join.Left number right on = join_regroup (codes "LEFT JOIN ( ") (query_said right) (source_text number) (expr_said on)
+join_said join.Right number right on = join_regroup (codes "RIGHT JOIN ( ") (query_said right) (source_text number) (expr_said on)
+join_said join.Full number right on = join_regroup (codes "FULL JOIN ( ") (query_said right) (source_text number) (expr_said on)
 
--- a query over two sources
-two_sources : (prefix : List ℕ) (out : Naming) (count : ℕ) (left : QueryForm) (joins : JoinForms)
-    → query_said (alone (selected false (listed out one (columns prefix count)) (f.from (first_source left) joins) f.no_condition []))
-    ≡ copied_text prefix out count (query_said left) ++ said (plan.joins joins)
-two_sources prefix out count left joins =
-    simple_said false (listed out one (columns prefix count)) (f.from (first_source left) joins)
-    ∙ ap (λ l. codes "SELECT " ++ (l ++ said (plan.sources (f.from (first_source left) joins)))) (columns_list prefix out count)
-    ∙ ap (λ t. codes "SELECT " ++ t) (sym (append_assoc (columns_text prefix out count) (over_text (query_said left)) (said (plan.joins joins))))
+crossed : (q name : List ℕ) → (codes "CROSS JOIN LATERAL ( " ++ (q ++ name)) ++ [] ≡ codes "CROSS JOIN LATERAL ( " ++ (q ++ (name ++ []))
+crossed q name = append-nil (codes "CROSS JOIN LATERAL ( " ++ (q ++ name)) ∙ ap (λ t. codes "CROSS JOIN LATERAL ( " ++ (q ++ t)) (sym (append-nil name))
+
+lateral_said : (kind : JoinKind) (number : ℕ) (right : QueryForm) → said (plan.joins (f.a_lateral (stays kind) right (source_name number) f.no_joins))
+    ≡ beside_lateral kind number (query_said right)
+lateral_said join.Inner number right = crossed (query_said right) (source_text number)
+lateral_said join.Left number right =
+    append-nil (codes "LEFT JOIN LATERAL ( " ++ ((query_said right ++ source_text number) ++ codes "ON TRUE "))
+    ∙ ap (λ t. codes "LEFT JOIN LATERAL ( " ++ t) (append_assoc (query_said right) (source_text number) (codes "ON TRUE "))
+lateral_said join.Right number right = crossed (query_said right) (source_text number)
+lateral_said join.Full number right = crossed (query_said right) (source_text number)
+
+-- ---- set operations
 
 set_regroup : (a b : List ℕ) → a ++ ((b ++ []) ++ []) ≡ a ++ b
 set_regroup a b = ap (λ t. a ++ t) (append-nil (b ++ []) ∙ append-nil b)
@@ -164,27 +176,31 @@ intersect_said false left right = set_regroup (said (plan.core left)) (codes "IN
 
 -- ---- tables and groups
 
-single_said : (out : Naming) → query_said (alone (selected false (listed out one []) f.no_from f.no_condition [])) ≡ codes "SELECT " ++ unread_text out.prefix (codes "1 ") 0
-single_said out =
+single_said : (distinct : Bool) (out : Naming) → said (plan.core (selected distinct (listed out one []) f.no_from f.no_condition []))
+    ≡ codes "SELECT " ++ (said (maybe_distinct distinct) ++ unread_text out.prefix (codes "1 ") 0)
+single_said distinct out =
     let unread : List ℕ = unread_text out.prefix (expr_said one) 0 in
-    simple_said false (listed out one []) f.no_from
-    ∙ ap (λ t. codes "SELECT " ++ t) (append-nil (unread ++ []) ∙ append-nil unread) ∙ ap (λ word. codes "SELECT " ++ unread_text out.prefix word 0) one_said
+    select_said distinct (listed out one []) f.no_from f.no_condition
+    ∙ ap (λ t. codes "SELECT " ++ (said (maybe_distinct distinct) ++ t)) (append-nil (unread ++ []) ∙ append-nil unread)
+    ∙ ap (λ word. codes "SELECT " ++ (said (maybe_distinct distinct) ++ unread_text out.prefix word 0)) one_said
 
 names_length : (names : List (List ℕ)) → length (map (λ name. f.column (f.bare name)) names) ≡ length names
 names_length [] = refl
 names_length (name ∷ names) = ap suc (names_length names)
 
-table_said : (out : Naming) (table : TableNames) → query_said (alone (of_table out table)) ≡ table_text out table
-table_said out table =
+table_said : (table : TableNames) (distinct : Bool) (out : Naming)
+    → said (plan.core (of_table table distinct out)) ≡ codes "SELECT " ++ (said (maybe_distinct distinct) ++ table_text out table)
+table_said table distinct out =
     let names : List ExprForm = map (λ name. f.column (f.bare name)) table.columns in
     let unread : List ℕ = unread_text out.prefix (codes "1 ") (length table.columns) in
-    simple_said false (listed out one names) (f.from (f.table table.name) f.no_joins)
-    ∙ ap₂ (λ l n. codes "SELECT " ++ (l ++ (codes "FROM " ++ n)))
+    select_said distinct (listed out one names) (f.from (f.table table.name) f.no_joins) f.no_condition
+    ∙ ap₂ (λ l n. codes "SELECT " ++ (said (maybe_distinct distinct) ++ (l ++ (codes "FROM " ++ n))))
     (listed_said out one names
     ∙ ap (λ word. unread_text out.prefix word (length names) ++ items_said out 0 (map expr_said names)) one_said
     ∙ ap₂ (λ n t. unread_text out.prefix (codes "1 ") n ++ t) (names_length table.columns) (names_said outermost out 0 table.columns))
-    (append-nil (name_text table.name))
-    ∙ ap (λ t. codes "SELECT " ++ t) (append_assoc unread (named_items out 0 table.columns) (codes "FROM " ++ name_text table.name))
+    (append-nil (name_text table.name ++ []) ∙ append-nil (name_text table.name))
+    ∙ ap (λ t. codes "SELECT " ++ (said (maybe_distinct distinct) ++ t))
+    (append_assoc unread (named_items out 0 table.columns) (codes "FROM " ++ name_text table.name))
 
 groups_length : (prefix places : List ℕ) → length (grouped_columns prefix places) ≡ length places
 groups_length prefix [] = refl
@@ -210,35 +226,38 @@ both_listed out nothing forms more n m is_n is_m =
     (ap (items_said out 0) (map_both forms more) ∙ items_append out 0 (map expr_said forms) (map expr_said more)
     ∙ ap (λ k. items_said out 0 (map expr_said forms) ++ items_said out k (map expr_said more)) behind)
 
-below_said : (prefix : List ℕ) (groups : List ℕ) (aggregates : List Aggr) (q : QueryForm)
-    → query_said (below_groups prefix groups aggregates q) ≡ below_text prefix groups aggregates ++ over_text (query_said q)
-below_said prefix groups aggregates q =
-    simple_said false (listed (own prefix) one (grouped_columns prefix groups ++ arguments prefix aggregates)) (over q)
-    ∙ ap₂ (λ l s. codes "SELECT " ++ (l ++ s))
+below_said : (prefix : List ℕ) (groups : List ℕ) (aggregates : List Aggr) (chain : Chain) (test : ConditionForm)
+    → query_said (below_groups prefix groups aggregates chain test)
+    ≡ below_text prefix groups aggregates ++ (said (plan.sources (sources chain)) ++ said (plan.where_clause test))
+below_said prefix groups aggregates chain test =
+    let list = listed (own prefix) one (grouped_columns prefix groups ++ arguments prefix aggregates) in
+    alone_said (selected false list (sources chain) test []) ∙ select_said false list (sources chain) test
+    ∙ ap (λ l. codes "SELECT " ++ (l ++ (said (plan.sources (sources chain)) ++ said (plan.where_clause test))))
     (both_listed (own prefix) one (grouped_columns prefix groups) (arguments prefix aggregates) (length groups) (length aggregates)
     (groups_length prefix groups) (arguments_length prefix aggregates)
     ∙ ap (λ word. unread_text prefix word (length groups + length aggregates)
     ++ (items_said (own prefix) 0 (map expr_said (grouped_columns prefix groups))
     ++ items_said (own prefix) (length groups) (map expr_said (arguments prefix aggregates)))) one_said
     ∙ ap₂ (λ a b. unread_text prefix (codes "1 ") (length groups + length aggregates) ++ (a ++ b)) (groups_said prefix 0 groups)
-    (arguments_said prefix (length groups) aggregates)) (over_said q)
+    (arguments_said prefix (length groups) aggregates))
 
 groups_regroup : (l s g : List ℕ) → (codes "SELECT " ++ (l ++ (s ++ (g ++ [])))) ++ [] ≡ (codes "SELECT " ++ l) ++ (s ++ g)
 groups_regroup l s g =
     append-nil (codes "SELECT " ++ (l ++ (s ++ (g ++ [])))) ∙ ap (λ t. codes "SELECT " ++ (l ++ (s ++ t))) (append-nil g)
 
-in_groups_said : (prefix : List ℕ) (out : Naming) (groups : List ℕ) (aggregates : List Aggr) (q : QueryForm)
-    → query_said (alone (in_groups prefix out groups aggregates q)) ≡ groups_text prefix out groups aggregates (query_said q)
-in_groups_said prefix out groups aggregates q =
+in_groups_said : (prefix : List ℕ) (out : Naming) (groups : List ℕ) (aggregates : List Aggr) (chain : Chain) (test : ConditionForm)
+    → query_said (alone (in_groups prefix out groups aggregates chain test))
+    ≡ groups_text prefix out groups aggregates (said (plan.sources (sources chain)) ++ said (plan.where_clause test))
+in_groups_said prefix out groups aggregates chain test =
     let list = listed out f.count_rows (columns prefix (length groups) ++ aggregates_from prefix (length groups + 1) aggregates) in
-    groups_regroup (list_said list) (said (plan.sources (over (below_groups prefix groups aggregates q)))) (said (grouped (own_columns prefix (length groups))))
+    let below = below_groups prefix groups aggregates chain test in
+    groups_regroup (list_said list) (said (plan.sources (sources (just below)))) (said (grouped (own_columns prefix (length groups))))
     ∙ ap₂ (λ l t. (codes "SELECT " ++ l) ++ t)
     (both_listed out f.count_rows (columns prefix (length groups)) (aggregates_from prefix (length groups + 1) aggregates) (length groups) (length aggregates)
     (columns_length prefix 1 (length groups)) (aggregates_length prefix (length groups + 1) aggregates)
     ∙ ap₂ (λ a b. unread_text out.prefix (codes "COUNT ( * ) ") (length groups + length aggregates) ++ (a ++ b)) (columns_said prefix out 0 (length groups))
     (aggregates_said prefix out (length groups) aggregates))
-    (ap₂ (λ s g. s ++ g) (over_said (below_groups prefix groups aggregates q) ∙ ap over_text (below_said prefix groups aggregates q))
-    (grouped_said prefix (length groups)))
+    (ap₂ (λ s g. s ++ g) (just_said below ∙ ap over_text (below_said prefix groups aggregates chain test)) (grouped_said prefix (length groups)))
 
 -- ---- sublinks
 
@@ -283,90 +302,178 @@ asked_said prefix (ask.All c) tested q =
     ∙ asked_regroup (part_text prefix tested) (all_text c) (query_said q)
 asked_said prefix ask.Scalar tested q = ap (λ t. codes "( " ++ (t ++ codes ") ")) (nested_said q)
 
+-- ---- what a query is shown as says what it is written as
+
+pub record Says (w : Written) (form : Framed) : Type 0 where
+  pub whole : (out : Naming) → query_said (form.whole out) ≡ w.whole out
+  pub core : (distinct : Bool) (out : Naming) → said (plan.core (form.core distinct out)) ≡ codes "SELECT " ++ (said (maybe_distinct distinct) ++ w.listed out)
+  pub block : said (plan.sources (sources form.block)) ++ said (plan.where_clause form.test) ≡ w.block
+  pub from : said (plan.sources (sources form.from)) ≡ w.from
+
+module _ (prefix : List ℕ) where
+  -- all columns over a FROM with a WHERE
+  copied_said : (count : ℕ) (chain : Chain) (test : ConditionForm) (block : List ℕ)
+      → said (plan.sources (sources chain)) ++ said (plan.where_clause test) ≡ block → (distinct : Bool) (out : Naming)
+      → said (plan.core (copied prefix count chain test distinct out))
+      ≡ codes "SELECT " ++ (said (maybe_distinct distinct) ++ (columns_text prefix out count ++ block))
+  copied_said count chain test block is distinct out =
+      select_said distinct (listed out one (columns prefix count)) (sources chain) test
+      ∙ ap₂ (λ l b. codes "SELECT " ++ (said (maybe_distinct distinct) ++ (l ++ b))) (columns_list prefix out count) is
+
+  whole_says : (count : ℕ) (whole : Naming → List ℕ) (form : Naming → QueryForm) → ((out : Naming) → query_said (form out) ≡ whole out)
+      → Says (texts.a_whole prefix count whole) (a_whole prefix count form)
+  whole_says count whole form is =
+      let over = just_said (form (own prefix)) ∙ ap over_text (is (own prefix)) in
+      let block = append-nil (said (plan.sources (sources (just (form (own prefix)))))) ∙ over in
+      record {
+        whole = is;
+        core = copied_said count (just (form (own prefix))) f.no_condition (over_text (whole (own prefix))) block;
+        block = block;
+        from = over;
+      }
+
+  apart_says : (count : ℕ) (chained : Bool) (w : Written) (form : Framed) → Says w form
+      → Says (texts.apart_unless prefix count chained w) (apart_unless prefix count chained form)
+  apart_says count true w form is = is
+  apart_says count false w form is = whole_says count w.whole form.whole is.whole
+
+  select_says : (listed : Naming → List ℕ) (form : Bool → Naming → CoreForm)
+      → ((distinct : Bool) (out : Naming) → said (plan.core (form distinct out)) ≡ codes "SELECT " ++ (said (maybe_distinct distinct) ++ listed out))
+      → Says (texts.a_select prefix listed) (a_select prefix form)
+  select_says listed form is =
+      let whole : (out : Naming) → query_said (alone (form false out)) ≡ select (listed out) = λ out. alone_said (form false out) ∙ is false out in
+      let over = just_said (alone (form false (own prefix))) ∙ ap over_text (whole (own prefix)) in
+      record {
+        whole = whole;
+        core = is;
+        block = append-nil (said (plan.sources (sources (just (alone (form false (own prefix))))))) ∙ over;
+        from = over;
+      }
+
+  block_says : (count : ℕ) (followed : Bool) (block : List ℕ) (chain : Chain) (test : ConditionForm)
+      → said (plan.sources (sources chain)) ++ said (plan.where_clause test) ≡ block → (followed ≡ true → said (plan.sources (sources chain)) ≡ block)
+      → Says (texts.a_block prefix count followed block) (a_block prefix count followed chain test)
+  block_says count followed block chain test is alone_is =
+      let whole : (out : Naming) → query_said (alone (copied prefix count chain test false out)) ≡ select (columns_text prefix out count ++ block) =
+      λ out. alone_said (copied prefix count chain test false out) ∙ copied_said count chain test block is false out in
+      record {
+        whole = whole;
+        core = copied_said count chain test block is;
+        block = is;
+        from = either (over_text (select (columns_text prefix (own prefix) count ++ block))) (just (alone (copied prefix count chain test false (own prefix))))
+            followed alone_is (just_said (alone (copied prefix count chain test false (own prefix))) ∙ ap over_text (whole (own prefix)));
+      }
+    where
+      either : (over : List ℕ) (other : Chain) (b : Bool) → (b ≡ true → said (plan.sources (sources chain)) ≡ block)
+          → said (plan.sources (sources other)) ≡ over → said (plan.sources (sources (cond b chain other))) ≡ cond b block over
+      either over other true first second = first refl
+      either over other false first second = second
+
+  -- a FROM that joins follow, where it ends in one
+  joined_says : (count : ℕ) (followed : Bool) (chain : Chain) (last : JoinForms) (from text : List ℕ) → said (plan.sources (sources chain)) ≡ from
+      → said (plan.joins last) ≡ text
+      → Says (texts.a_block prefix count followed (from ++ text)) (a_block prefix count followed (joined_to chain last) f.no_condition)
+  joined_says count followed chain last from text first second =
+      let all = chain_said chain last ∙ ap₂ (λ a b. a ++ b) first second in
+      block_says count followed (from ++ text) (joined_to chain last) f.no_condition (append-nil (said (plan.sources (sources (joined_to chain last)))) ∙ all)
+      (λ is. all)
+
+condition_is : (prefix : List ℕ) (forms : List ExprForm) (texts : List (List ℕ)) (condition : Expr) → map expr_said forms ≡ texts
+    → expr_said (tested_by prefix forms condition) ≡ condition_text prefix texts condition
+condition_is prefix forms texts condition subs = condition_said prefix forms condition ∙ ap (λ ts. condition_text prefix ts condition) subs
+
 -- ---- queries
 
 module _ (tables : List TableNames) where
-  -- FROM a query that says its text
-  over_is : (prefix : List ℕ) (q : Query) → query_said (shown tables prefix (own prefix) q) ≡ query_bytes tables prefix (own prefix) q
-      → said (plan.sources (over (shown tables prefix (own prefix) q))) ≡ over_text (query_bytes tables prefix (own prefix) q)
-  over_is prefix q input = over_said (shown tables prefix (own prefix) q) ∙ ap over_text input
-
-  -- all its columns
-  copied_is : (prefix : List ℕ) (out : Naming) (q : Query) → query_said (shown tables prefix (own prefix) q) ≡ query_bytes tables prefix (own prefix) q
-      → said (plan.core (copied prefix out (width_of q) (shown tables prefix (own prefix) q)))
-      ≡ copied_text prefix out (width_of q) (query_bytes tables prefix (own prefix) q)
-  copied_is prefix out q input =
-      copied_said prefix out (width_of q) (shown tables prefix (own prefix) q) ∙ ap (copied_text prefix out (width_of q)) input
-
-  condition_is : (prefix : List ℕ) (forms : List ExprForm) (texts : List (List ℕ)) (condition : Expr) → map expr_said forms ≡ texts
-      → expr_said (tested_by prefix forms condition) ≡ condition_text prefix texts condition
-  condition_is prefix forms texts condition subs = condition_said prefix forms condition ∙ ap (λ ts. condition_text prefix ts condition) subs
-
   mutual
-    pub form_said : (prefix : List ℕ) (out : Naming) (q : Query) → query_said (shown tables prefix out q) ≡ query_bytes tables prefix out q
-    form_said prefix out (Table id kinds) = table_said out (names_of tables id)
-    form_said prefix out Single = single_said out
-    form_said prefix out (BaseOf input places label) = form_said prefix out input
-    form_said prefix out (FilterOf input condition _ subs) =
+    pub form_says : (prefix : List ℕ) (q : Query) → Says (written tables prefix q) (framed tables prefix q)
+    form_says prefix (Table id kinds) = select_says prefix (λ out. table_text out (names_of tables id)) (of_table (names_of tables id)) (table_said (names_of tables id))
+    form_says prefix Single =
+        select_says prefix (λ out. unread_text out.prefix (codes "1 ") 0) (λ distinct out. selected distinct (listed out one []) f.no_from f.no_condition [])
+        single_said
+    form_says prefix (BaseOf input places label) =
+        whole_says prefix (width_of input) (written tables prefix input).whole (framed tables prefix input).whole (form_says prefix input).whole
+    form_says prefix (FilterOf input condition _ subs) =
         let forms = sub_forms tables prefix subs in
-        filter_regroup (list_said (listed out one (columns prefix (width_of input)))) (said (plan.sources (over (shown tables prefix (own prefix) input))))
-        (expr_said (tested_by prefix forms condition))
-        ∙ ap₂ (λ l s. ((codes "SELECT " ++ l) ++ s) ++ (codes "WHERE " ++ expr_said (tested_by prefix forms condition)))
-        (columns_list prefix out (width_of input)) (over_is prefix input (form_said prefix (own prefix) input))
-        ∙ ap (λ c. copied_text prefix out (width_of input) (query_bytes tables prefix (own prefix) input) ++ (codes "WHERE " ++ c))
-        (condition_is prefix forms (sub_texts tables prefix subs) condition (subs_said prefix subs))
-    form_said prefix out (ProjectOf input items _ subs) =
+        let test = f.condition (tested_by prefix forms condition) in
+        let text = where_text prefix (sub_texts tables prefix subs) condition in
+        block_says prefix (width_of input) false ((written tables prefix input).from ++ text) (framed tables prefix input).from test
+        (ap₂ (λ s c. s ++ (codes "WHERE " ++ c)) (form_says prefix input).from
+        (condition_is prefix forms (sub_texts tables prefix subs) condition (subs_said prefix subs)))
+        (λ is. absurd (true≢false (sym is)))
+    form_says prefix (ProjectOf input items _ subs) =
         let forms = sub_forms tables prefix subs in
-        simple_said false (projected prefix out forms (spare (items_use items) 0 forms) items) (over (shown tables prefix (own prefix) input))
-        ∙ ap₂ (λ l s. codes "SELECT " ++ (l ++ s))
-        (projected_said prefix out forms (spare (items_use items) 0 forms) items
+        let below = framed tables prefix input in
+        let unused = spare (items_use items) 0 forms in
+        select_says prefix (λ out. projecting_text prefix out (sub_texts tables prefix subs) items ++ (written tables prefix input).block)
+        (λ distinct out. selected distinct (projected prefix out forms unused items) (sources below.block) below.test [])
+        (λ distinct out.
+        select_said distinct (projected prefix out forms unused items) (sources below.block) below.test
+        ∙ ap₂ (λ l s. codes "SELECT " ++ (said (maybe_distinct distinct) ++ (l ++ s)))
+        (projected_said prefix out forms unused items
         ∙ ap (λ unused. projected_text prefix out (map expr_said forms) unused items) (spare_map (items_use items) 0 forms)
         ∙ ap (λ texts. projected_text prefix out texts (spare (items_use items) 0 texts) items) (subs_said prefix subs))
-        (over_is prefix input (form_said prefix (own prefix) input))
-    form_said prefix out (JoinOf kind left right condition _ subs) =
+        (form_says prefix input).block)
+    form_says prefix (JoinOf kind left right condition _ subs) =
+        let number = width_of left + 1 in
         let right_side = naming prefix (width_of left + 1) in
         let forms = sub_forms tables prefix subs in
         let on = tested_by prefix forms condition in
-        let q = shown tables prefix right_side right in
-        two_sources prefix out (width_of left + width_of right) (shown tables prefix (own prefix) left)
-        (f.a_join (joined kind) (f.subquery q (codes "t2")) on f.no_joins)
-        ∙ ap₂ (λ l t. copied_text prefix out (width_of left + width_of right) l ++ t) (form_said prefix (own prefix) left)
-        (join_said kind q on
-        ∙ ap₂ (λ r c. beside_joined kind r ++ c) (form_said prefix right_side right)
-        (condition_is prefix forms (sub_texts tables prefix subs) condition (subs_said prefix subs)))
-    form_said prefix out (ApplyOf kind left right) =
+        let q = (framed tables prefix right).whole right_side in
+        let chained = is_chained kind in
+        let first = apart_unless prefix (width_of left) chained (framed tables prefix left) in
+        let text = texts.apart_unless prefix (width_of left) chained (written tables prefix left) in
+        let last = f.a_join (joined kind) (f.subquery q (source_name number)) on f.no_joins in
+        let joins = beside_joined kind number ((written tables prefix right).whole right_side) ++ condition_text prefix (sub_texts tables prefix subs) condition in
+        let count = length (kinds_of left ++ kinds_of right) in
+        apart_says prefix count chained (texts.a_block prefix count (is_any (width_of right)) (text.from ++ joins))
+        (a_block prefix count (is_any (width_of right)) (joined_to first.from last) f.no_condition)
+        (joined_says prefix count (is_any (width_of right)) first.from last text.from joins
+        (apart_says prefix (width_of left) chained (written tables prefix left) (framed tables prefix left) (form_says prefix left)).from
+        (join_said kind number q on
+        ∙ ap₂ (λ r c. beside_joined kind number r ++ c) ((form_says prefix right).whole right_side)
+        (condition_is prefix forms (sub_texts tables prefix subs) condition (subs_said prefix subs))))
+    form_says prefix (ApplyOf kind left right) =
+        let number = width_of left + 1 in
         let right_side = naming prefix (width_of left + 1) in
-        let q = shown tables (deeper prefix) right_side right in
-        two_sources prefix out (width_of left + width_of right) (shown tables prefix (own prefix) left) (f.a_lateral (stays kind) q (codes "t2") f.no_joins)
-        ∙ ap₂ (λ l t. copied_text prefix out (width_of left + width_of right) l ++ t) (form_said prefix (own prefix) left)
-        (lateral_said kind q ∙ ap (beside_lateral kind) (form_said (deeper prefix) right_side right))
-    form_said prefix out (UnionOf all left right) =
-        union_said all (copied prefix out (width_of left) (shown tables prefix (own prefix) left)) (copied prefix out (width_of right) (shown tables prefix (own prefix) right))
-        ∙ ap₂ (λ a b. a ++ (set_text (codes "UNION ") all ++ b)) (copied_is prefix out left (form_said prefix (own prefix) left))
-        (copied_is prefix out right (form_said prefix (own prefix) right))
-    form_said prefix out (IntersectOf all left right) =
-        intersect_said all (copied prefix out (width_of left) (shown tables prefix (own prefix) left)) (copied prefix out (width_of right) (shown tables prefix (own prefix) right))
-        ∙ ap₂ (λ a b. a ++ (set_text (codes "INTERSECT ") all ++ b)) (copied_is prefix out left (form_said prefix (own prefix) left))
-        (copied_is prefix out right (form_said prefix (own prefix) right))
-    form_said prefix out (ExceptOf all left right) =
-        except_said all (copied prefix out (width_of left) (shown tables prefix (own prefix) left)) (copied prefix out (width_of right) (shown tables prefix (own prefix) right))
-        ∙ ap₂ (λ a b. a ++ (set_text (codes "EXCEPT ") all ++ b)) (copied_is prefix out left (form_said prefix (own prefix) left))
-        (copied_is prefix out right (form_said prefix (own prefix) right))
-    form_said prefix out (DistinctOf input) =
-        simple_said true (listed out one (columns prefix (width_of input))) (over (shown tables prefix (own prefix) input))
-        ∙ ap₂ (λ l s. codes "SELECT DISTINCT " ++ (l ++ s)) (columns_list prefix out (width_of input)) (over_is prefix input (form_said prefix (own prefix) input))
-    form_said prefix out (AggregateOf input groups aggregates) =
-        in_groups_said prefix out groups aggregates (shown tables prefix (own prefix) input) ∙ ap (groups_text prefix out groups aggregates) (form_said prefix (own prefix) input)
-    form_said prefix out (LimitOf input keys count) =
-        ap₂ (λ a o. a ++ (o ++ (codes "LIMIT " ++ number_text count))) (copied_is prefix out input (form_said prefix (own prefix) input)) (order_said keys (width_of input))
-    form_said prefix out (ProvOf input) = form_said prefix out input
+        let q = (framed tables (deeper prefix) right).whole right_side in
+        joined_says prefix (length (kinds_of left ++ kinds_of right)) (is_any (width_of right)) (framed tables prefix left).from
+        (f.a_lateral (stays kind) q (source_name number) f.no_joins) (written tables prefix left).from
+        (beside_lateral kind number ((written tables (deeper prefix) right).whole right_side))
+        (form_says prefix left).from
+        (lateral_said kind number q ∙ ap (beside_lateral kind number) ((form_says (deeper prefix) right).whole right_side))
+    form_says prefix (UnionOf all left right) =
+        whole_says prefix (width_of left) (written tables prefix (UnionOf all left right)).whole (framed tables prefix (UnionOf all left right)).whole
+        (λ out. union_said all ((framed tables prefix left).core false out) ((framed tables prefix right).core false out)
+        ∙ ap₂ (λ a b. a ++ (set_text (codes "UNION ") all ++ b)) ((form_says prefix left).core false out) ((form_says prefix right).core false out))
+    form_says prefix (IntersectOf all left right) =
+        whole_says prefix (width_of left) (written tables prefix (IntersectOf all left right)).whole (framed tables prefix (IntersectOf all left right)).whole
+        (λ out. intersect_said all ((framed tables prefix left).core false out) ((framed tables prefix right).core false out)
+        ∙ ap₂ (λ a b. a ++ (set_text (codes "INTERSECT ") all ++ b)) ((form_says prefix left).core false out) ((form_says prefix right).core false out))
+    form_says prefix (ExceptOf all left right) =
+        whole_says prefix (width_of left) (written tables prefix (ExceptOf all left right)).whole (framed tables prefix (ExceptOf all left right)).whole
+        (λ out. except_said all ((framed tables prefix left).core false out) ((framed tables prefix right).core false out)
+        ∙ ap₂ (λ a b. a ++ (set_text (codes "EXCEPT ") all ++ b)) ((form_says prefix left).core false out) ((form_says prefix right).core false out))
+    form_says prefix (DistinctOf input) =
+        whole_says prefix (width_of input) (written tables prefix (DistinctOf input)).whole (framed tables prefix (DistinctOf input)).whole
+        (λ out. alone_said ((framed tables prefix input).core true out) ∙ (form_says prefix input).core true out)
+    form_says prefix (AggregateOf input groups aggregates) =
+        let below = framed tables prefix input in
+        whole_says prefix (width_of (AggregateOf input groups aggregates)) (written tables prefix (AggregateOf input groups aggregates)).whole
+        (framed tables prefix (AggregateOf input groups aggregates)).whole
+        (λ out. in_groups_said prefix out groups aggregates below.block below.test ∙ ap (groups_text prefix out groups aggregates) (form_says prefix input).block)
+    form_says prefix (LimitOf input keys count) =
+        whole_says prefix (width_of input) (written tables prefix (LimitOf input keys count)).whole (framed tables prefix (LimitOf input keys count)).whole
+        (λ out. ap₂ (λ a o. a ++ (o ++ (codes "LIMIT " ++ number_text count))) ((form_says prefix input).core false out) (order_said keys (width_of input)))
+    form_says prefix (ProvOf input) =
+        whole_says prefix (width_of (ProvOf input)) (written tables prefix input).whole (framed tables prefix input).whole (form_says prefix input).whole
 
     subs_said : (prefix : List ℕ) {m : _} (subs : Row_of-Sublink m) → map expr_said (sub_forms tables prefix subs) ≡ sub_texts tables prefix subs
     subs_said prefix end_of-Sublink = refl
     subs_said prefix (more_of-Sublink kind tested query subs) =
         ap₂ (λ text texts. text ∷ texts)
-        (asked_said prefix kind tested (shown tables (deeper prefix) (own (deeper prefix)) query)
-        ∙ ap (asked_text prefix kind tested) (form_said (deeper prefix) (own (deeper prefix)) query))
+        (asked_said prefix kind tested ((framed tables (deeper prefix) query).whole (own (deeper prefix)))
+        ∙ ap (asked_text prefix kind tested) ((form_says (deeper prefix) query).whole (own (deeper prefix))))
         (subs_said prefix subs)
 
   -- ---- answers
@@ -377,16 +484,20 @@ module _ (tables : List TableNames) where
       let reference : List ℕ = reference_text outermost 0 1 in
       ap (λ rest. (reference ++ (codes "AS " ++ name_text name)) ++ rest) (called_said 1 names refl)
 
-  answer_regroup : (u c s o : List ℕ) → (codes "SELECT " ++ ((u ++ c) ++ (s ++ []))) ++ (o ++ []) ≡ codes "SELECT " ++ (u ++ (c ++ (s ++ o)))
-  answer_regroup u c s o =
-      ap₂ (λ t o. (codes "SELECT " ++ ((u ++ c) ++ t)) ++ o) (append-nil s) (append-nil o)
-      ∙ ap (λ t. codes "SELECT " ++ t) (append_assoc (u ++ c) s o ∙ append_assoc u c (s ++ o))
+  answer_regroup : (u c s w o : List ℕ)
+      → (codes "SELECT " ++ ((u ++ c) ++ (s ++ w))) ++ (o ++ []) ≡ codes "SELECT " ++ (u ++ (c ++ ((s ++ w) ++ o)))
+  answer_regroup u c s w o =
+      ap (λ o. (codes "SELECT " ++ ((u ++ c) ++ (s ++ w))) ++ o) (append-nil o)
+      ∙ ap (λ t. codes "SELECT " ++ t) (append_assoc (u ++ c) (s ++ w) o ∙ append_assoc u c ((s ++ w) ++ o))
 
   pub answer_said : (q : Query) (names : List (List ℕ)) (keys : List Key) → query_said (shown_answer tables q names keys) ≡ answer_bytes tables q names keys
   answer_said q names keys =
-      ap₂ (λ l s. (codes "SELECT " ++ (l ++ (s ++ []))) ++ (said (ordered (map key_form keys)) ++ [])) (answer_list names)
-      (over_is outermost q (form_said outermost (own outermost) q))
-      ∙ ap (λ o. (codes "SELECT " ++ ((unread_text outermost (codes "1 ") (length names) ++ called_items 0 names)
-      ++ (over_text (query_bytes tables outermost (own outermost) q) ++ []))) ++ (o ++ [])) (answer_order_said keys)
-      ∙ answer_regroup (unread_text outermost (codes "1 ") (length names)) (called_items 0 names) (over_text (query_bytes tables outermost (own outermost) q))
-      (unless_none (length keys) (codes "ORDER BY ") ++ key_texts 0 keys)
+      let below = framed tables outermost q in
+      let unread = unread_text outermost (codes "1 ") (length names) in
+      let origin = said (plan.sources (sources below.block)) in
+      let test = said (plan.where_clause below.test) in
+      ap (λ c. c ++ (said (ordered (map key_form keys)) ++ [])) (select_said false (called names) (sources below.block) below.test)
+      ∙ ap₂ (λ l o. (codes "SELECT " ++ (l ++ (origin ++ test))) ++ (o ++ [])) (answer_list names) (answer_order_said keys)
+      ∙ answer_regroup unread (called_items 0 names) origin test (unless_none (length keys) (codes "ORDER BY ") ++ key_texts 0 keys)
+      ∙ ap (λ b. codes "SELECT " ++ (unread ++ (called_items 0 names ++ (b ++ (unless_none (length keys) (codes "ORDER BY ") ++ key_texts 0 keys)))))
+      (form_says outermost q).block

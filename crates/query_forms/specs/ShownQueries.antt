@@ -1,12 +1,12 @@
--- How queries are printed: each node is a SELECT of its own over a subquery for each of its inputs. Columns are named by their place,
--- so names of tables and of their columns stand at tables alone.
-use Rattle.std.specs.Prelude.{ℕ, ◌+◌, Bool, true, false, List, [], ◌∷◌, ◌++◌, map, length, Option, Some, None, codes}
+-- How queries are printed: one SELECT for a block of SQL. Columns are named by their place, so names of tables and of their columns stand
+-- at tables alone.
+use Rattle.std.specs.Prelude.{ℕ, ◌+◌, Bool, true, false, cond, List, [], ◌∷◌, ◌++◌, map, length, Option, Some, None}
 use Rattle.std.specs.List.{range_with_len}
 use Rattle.null_logic.specs.declared.compare.Compare.{Compare}
 use Rattle.null_logic.specs.declared.compare.Compare.TheVariants as compare
 use Rattle.perm_values.specs.declared.key.Key.{Key}
 use Rattle.perm_values.specs.declared.kind.Kind.TheVariants as kinds
-use Rattle.bag_algebra.specs.Kinds.{width_of}
+use Rattle.bag_algebra.specs.Kinds.{kinds_of, width_of}
 use Rattle.bag_algebra.specs.built.Patterns.{BaseOf, FilterOf, ProjectOf, JoinOf, ApplyOf, UnionOf, IntersectOf, ExceptOf, DistinctOf, AggregateOf, LimitOf, ProvOf}
 use Rattle.bag_algebra.specs.declared.expr.Expr.{Expr}
 use Rattle.bag_algebra.specs.declared.expr.Item.{Item}
@@ -20,12 +20,14 @@ use Rattle.bag_algebra.specs.declared.query.Query.TheVariants.{Table, Single}
 use Rattle.bag_algebra.specs.declared.query.SubKind.{SubKind}
 use Rattle.bag_algebra.specs.declared.query.SubKind.TheVariants as ask
 use Rattle.tree_texts.specs.Forms as f
-use Rattle.tree_texts.specs.Forms.{ExprForm, ItemForms, SourceForm, FromForm, ConditionForm, ColumnForm, CoreForm, QueryForm, KeyForm, Joined, enclosed}
+use Rattle.tree_texts.specs.Forms.{ExprForm, ItemForms, SourceForm, JoinForms, FromForm, ConditionForm, ColumnForm, CoreForm, QueryForm, KeyForm, Joined, enclosed}
 use Rattle.expression_texts.specs.Names.{column_name}
-use Rattle.query_texts.specs.Names.{Naming, naming, own, unread, outermost, deeper, names_of}
+use Rattle.clause_texts.specs.Chains.{is_chained}
+use Rattle.clause_texts.specs.Names.{Naming, naming, own, unread, outermost, deeper, names_of, source_prefix}
+use Rattle.expression_texts.specs.Words.{is_any}
 use Rattle.query_forms.specs.ShownExpressions.{shown_expr, unsaid, beside}
-use Rattle.query_texts.specs.Unused.{used_in, items_use, spare}
-use Rattle.query_texts.specs.declared.tables.TableNames.{TableNames}
+use Rattle.clause_texts.specs.Unused.{used_in, items_use, spare}
+use Rattle.clause_texts.specs.declared.tables.TableNames.{TableNames}
 
 -- ---- columns
 
@@ -69,21 +71,90 @@ selected distinct list origin test groups =
 abbrev pub alone : CoreForm → QueryForm
 alone core = f.one core [] None
 
+-- ---- sources
+
 abbrev pub first_source : QueryForm → SourceForm
-first_source q = f.subquery q (codes "t1")
+first_source q = f.subquery q source_prefix
 
-abbrev pub over : QueryForm → FromForm
-over q = f.from (first_source q) f.no_joins
+-- sources of a FROM: a first one, and others that are joined
+pub record Chain : Type 0 where
+  pub first : SourceForm
+  pub more : JoinForms
 
--- all columns of a subquery
-abbrev pub copied : List ℕ → Naming → ℕ → QueryForm → CoreForm
-copied prefix out count q = selected false (listed out one (columns prefix count)) (over q) f.no_condition []
+abbrev pub sources : Chain → FromForm
+sources chain = f.from chain.first chain.more
+
+abbrev pub just : QueryForm → Chain
+just q = record { first = first_source q; more = f.no_joins }
+
+abbrev pub then_joins : JoinForms → JoinForms → JoinForms
+then_joins f.no_joins last = last
+then_joins (f.a_join kind right on more) last = f.a_join kind right on (then_joins more last)
+then_joins (f.a_lateral stays q name more) last = f.a_lateral stays q name (then_joins more last)
+
+abbrev pub joined_to : Chain → JoinForms → Chain
+joined_to chain last = record { first = chain.first; more = then_joins chain.more last }
+
+-- the name of the source whose columns begin with a number
+abbrev pub source_name : ℕ → List ℕ
+source_name number = column_name source_prefix 0 number
+
+-- ---- what a query is shown as
+
+pub record Framed : Type 0 where
+  -- by itself, with its columns called so
+  pub whole : Naming → QueryForm
+  -- one SELECT that gives its columns, with DISTINCT or not
+  pub core : Bool → Naming → CoreForm
+  -- FROM and WHERE that give its columns
+  pub block : Chain
+  pub test : ConditionForm
+  -- FROM that gives its columns, and that joins may follow
+  pub from : Chain
+
+-- all columns of a FROM with a WHERE
+abbrev pub copied : List ℕ → ℕ → Chain → ConditionForm → Bool → Naming → CoreForm
+copied prefix count chain test distinct out = selected distinct (listed out one (columns prefix count)) (sources chain) test []
+
+-- what is shown by itself alone
+abbrev pub a_whole : List ℕ → ℕ → (Naming → QueryForm) → Framed
+a_whole prefix count whole = record {
+  whole = whole;
+  core = copied prefix count (just (whole (own prefix))) f.no_condition;
+  block = just (whole (own prefix));
+  test = f.no_condition;
+  from = just (whole (own prefix));
+}
+
+-- one SELECT
+abbrev pub a_select : List ℕ → (Bool → Naming → CoreForm) → Framed
+a_select prefix core = record {
+  whole = λ out. alone (core false out);
+  core = core;
+  block = just (alone (core false (own prefix)));
+  test = f.no_condition;
+  from = just (alone (core false (own prefix)));
+}
+
+-- FROM and WHERE that give so many columns, and that joins may follow or not
+abbrev pub a_block : List ℕ → ℕ → Bool → Chain → ConditionForm → Framed
+a_block prefix count followed chain test = record {
+  whole = λ out. alone (copied prefix count chain test false out);
+  core = copied prefix count chain test;
+  block = chain;
+  test = test;
+  from = cond followed chain (just (alone (copied prefix count chain test false (own prefix))));
+}
+
+-- what is shown by itself alone, unless it may stand in one FROM with others
+abbrev pub apart_unless : List ℕ → ℕ → Bool → Framed → Framed
+apart_unless prefix count chained form = cond chained form (a_whole prefix count form.whole)
 
 -- ---- nodes
 
-abbrev pub of_table : Naming → TableNames → CoreForm
-of_table out table =
-    selected false (listed out one (map (λ name. f.column (f.bare name)) table.columns)) (f.from (f.table table.name) f.no_joins) f.no_condition []
+abbrev pub of_table : TableNames → Bool → Naming → CoreForm
+of_table table distinct out =
+    selected distinct (listed out one (map (λ name. f.column (f.bare name)) table.columns)) (f.from (f.table table.name) f.no_joins) f.no_condition []
 
 abbrev pub tested_by : List ℕ → List ExprForm → Expr → ExprForm
 tested_by prefix subs condition = beside kinds.Boolean (spare (used_in condition) 0 subs) (shown_expr prefix subs condition)
@@ -133,15 +204,16 @@ aggregates_from prefix number [] = []
 aggregates_from prefix number (aggregate ∷ aggregates) =
     aggregated aggregate.function (own_column prefix number) ∷ aggregates_from prefix (number + 1) aggregates
 
-abbrev pub below_groups : List ℕ → List ℕ → List Aggr → QueryForm → QueryForm
-below_groups prefix groups aggregates q =
-    alone (selected false (listed (own prefix) one (grouped_columns prefix groups ++ arguments prefix aggregates)) (over q) f.no_condition [])
+-- what is grouped, over a FROM with a WHERE
+abbrev pub below_groups : List ℕ → List ℕ → List Aggr → Chain → ConditionForm → QueryForm
+below_groups prefix groups aggregates chain test =
+    alone (selected false (listed (own prefix) one (grouped_columns prefix groups ++ arguments prefix aggregates)) (sources chain) test [])
 
 -- without groups and aggregates there is one row all the same, which COUNT gives
-abbrev pub in_groups : List ℕ → Naming → List ℕ → List Aggr → QueryForm → CoreForm
-in_groups prefix out groups aggregates q =
+abbrev pub in_groups : List ℕ → Naming → List ℕ → List Aggr → Chain → ConditionForm → CoreForm
+in_groups prefix out groups aggregates chain test =
     selected false (listed out f.count_rows (columns prefix (length groups) ++ aggregates_from prefix (length groups + 1) aggregates))
-    (over (below_groups prefix groups aggregates q)) f.no_condition (own_columns prefix (length groups))
+    (sources (just (below_groups prefix groups aggregates chain test))) f.no_condition (own_columns prefix (length groups))
 
 -- ---- order
 
@@ -183,49 +255,58 @@ asked ask.Scalar a q = f.scalar q
 
 -- ---- queries
 
--- the form of a query whose own columns begin with a prefix, and whose columns are called so; PROVENANCE is taken out before
+-- the form of a query whose own columns begin with a prefix; PROVENANCE is taken out before
 abbrev mutual
-  pub shown : List TableNames → List ℕ → Naming → Query → QueryForm
-  shown tables prefix out (Table id kinds) = alone (of_table out (names_of tables id))
-  shown tables prefix out Single = alone (selected false (listed out one []) f.no_from f.no_condition [])
-  shown tables prefix out (BaseOf input places label) = shown tables prefix out input
-  shown tables prefix out (FilterOf input condition _ subs) =
-      alone (selected false (listed out one (columns prefix (width_of input))) (over (shown tables prefix (own prefix) input))
-      (f.condition (tested_by prefix (sub_forms tables prefix subs) condition)) [])
-  shown tables prefix out (ProjectOf input items _ subs) =
+  pub framed : List TableNames → List ℕ → Query → Framed
+  framed tables prefix (Table id kinds) = a_select prefix (of_table (names_of tables id))
+  framed tables prefix Single = a_select prefix (λ distinct out. selected distinct (listed out one []) f.no_from f.no_condition [])
+  framed tables prefix (BaseOf input places label) = a_whole prefix (width_of input) (framed tables prefix input).whole
+  framed tables prefix (FilterOf input condition _ subs) =
+      a_block prefix (width_of input) false (framed tables prefix input).from
+      (f.condition (tested_by prefix (sub_forms tables prefix subs) condition))
+  framed tables prefix (ProjectOf input items _ subs) =
       let forms = sub_forms tables prefix subs in
-      alone (selected false (projected prefix out forms (spare (items_use items) 0 forms) items) (over (shown tables prefix (own prefix) input)) f.no_condition [])
-  shown tables prefix out (JoinOf kind left right condition _ subs) =
-      alone (selected false (listed out one (columns prefix (width_of left + width_of right)))
-      (f.from (first_source (shown tables prefix (own prefix) left))
-      (f.a_join (joined kind) (f.subquery (shown tables prefix (naming prefix (width_of left + 1)) right) (codes "t2"))
-      (tested_by prefix (sub_forms tables prefix subs) condition) f.no_joins)) f.no_condition [])
-  shown tables prefix out (ApplyOf kind left right) =
-      alone (selected false (listed out one (columns prefix (width_of left + width_of right)))
-      (f.from (first_source (shown tables prefix (own prefix) left))
-      (f.a_lateral (stays kind) (shown tables (deeper prefix) (naming prefix (width_of left + 1)) right) (codes "t2") f.no_joins)) f.no_condition [])
-  shown tables prefix out (UnionOf all left right) =
-      f.united (copied prefix out (width_of left) (shown tables prefix (own prefix) left)) f.union all
-      (copied prefix out (width_of right) (shown tables prefix (own prefix) right)) f.no_unions [] None
-  shown tables prefix out (IntersectOf all left right) =
-      f.intersected (copied prefix out (width_of left) (shown tables prefix (own prefix) left)) all
-      (copied prefix out (width_of right) (shown tables prefix (own prefix) right)) f.no_intersects [] None
-  shown tables prefix out (ExceptOf all left right) =
-      f.united (copied prefix out (width_of left) (shown tables prefix (own prefix) left)) f.except all
-      (copied prefix out (width_of right) (shown tables prefix (own prefix) right)) f.no_unions [] None
-  shown tables prefix out (DistinctOf input) =
-      alone (selected true (listed out one (columns prefix (width_of input))) (over (shown tables prefix (own prefix) input)) f.no_condition [])
-  shown tables prefix out (AggregateOf input groups aggregates) =
-      alone (in_groups prefix out groups aggregates (shown tables prefix (own prefix) input))
-  shown tables prefix out (LimitOf input keys count) =
-      f.one (copied prefix out (width_of input) (shown tables prefix (own prefix) input)) (all_keys (width_of input) keys) (Some count)
-  shown tables prefix out (ProvOf input) = shown tables prefix out input
+      let below = framed tables prefix input in
+      a_select prefix (λ distinct out.
+      selected distinct (projected prefix out forms (spare (items_use items) 0 forms) items) (sources below.block) below.test [])
+  framed tables prefix (JoinOf kind left right condition _ subs) =
+      apart_unless prefix (length (kinds_of left ++ kinds_of right)) (is_chained kind)
+      (a_block prefix (length (kinds_of left ++ kinds_of right)) (is_any (width_of right))
+      (joined_to (apart_unless prefix (width_of left) (is_chained kind) (framed tables prefix left)).from
+      (f.a_join (joined kind)
+      (f.subquery ((framed tables prefix right).whole (naming prefix (width_of left + 1))) (source_name (width_of left + 1)))
+      (tested_by prefix (sub_forms tables prefix subs) condition) f.no_joins)) f.no_condition)
+  framed tables prefix (ApplyOf kind left right) =
+      a_block prefix (length (kinds_of left ++ kinds_of right)) (is_any (width_of right))
+      (joined_to (framed tables prefix left).from
+      (f.a_lateral (stays kind) ((framed tables (deeper prefix) right).whole (naming prefix (width_of left + 1)))
+      (source_name (width_of left + 1)) f.no_joins)) f.no_condition
+  framed tables prefix (UnionOf all left right) =
+      a_whole prefix (width_of left) (λ out.
+      f.united ((framed tables prefix left).core false out) f.union all ((framed tables prefix right).core false out) f.no_unions [] None)
+  framed tables prefix (IntersectOf all left right) =
+      a_whole prefix (width_of left) (λ out.
+      f.intersected ((framed tables prefix left).core false out) all ((framed tables prefix right).core false out) f.no_intersects [] None)
+  framed tables prefix (ExceptOf all left right) =
+      a_whole prefix (width_of left) (λ out.
+      f.united ((framed tables prefix left).core false out) f.except all ((framed tables prefix right).core false out) f.no_unions [] None)
+  framed tables prefix (DistinctOf input) = a_whole prefix (width_of input) (λ out. alone ((framed tables prefix input).core true out))
+  framed tables prefix (AggregateOf input groups aggregates) =
+      a_whole prefix (width_of (AggregateOf input groups aggregates)) (λ out.
+      alone (in_groups prefix out groups aggregates (framed tables prefix input).block (framed tables prefix input).test))
+  framed tables prefix (LimitOf input keys count) =
+      a_whole prefix (width_of input) (λ out.
+      f.one ((framed tables prefix input).core false out) (all_keys (width_of input) keys) (Some count))
+  framed tables prefix (ProvOf input) = a_whole prefix (width_of (ProvOf input)) (framed tables prefix input).whole
 
   -- the forms of a node's sublinks, by their numbers
   pub sub_forms : List TableNames → List ℕ → {m : _} → Row_of-Sublink m → List ExprForm
   sub_forms tables prefix end_of-Sublink = []
   sub_forms tables prefix (more_of-Sublink kind tested query subs) =
-      asked kind (tested_part prefix tested) (shown tables (deeper prefix) (own (deeper prefix)) query) ∷ sub_forms tables prefix subs
+      asked kind (tested_part prefix tested) ((framed tables (deeper prefix) query).whole (own (deeper prefix))) ∷ sub_forms tables prefix subs
+
+abbrev pub shown : List TableNames → List ℕ → Naming → Query → QueryForm
+shown tables prefix out q = (framed tables prefix q).whole out
 
 -- ---- answers
 
@@ -240,4 +321,5 @@ called (name ∷ names) = record { first = f.column (own_column outermost 1); na
 -- a query with the names of its columns and the order of its rows
 abbrev pub shown_answer : List TableNames → Query → List (List ℕ) → List Key → QueryForm
 shown_answer tables q names keys =
-    f.one (selected false (called names) (over (shown tables outermost (own outermost) q)) f.no_condition []) (map key_form keys) None
+    let below = framed tables outermost q in
+    f.one (selected false (called names) (sources below.block) below.test []) (map key_form keys) None

@@ -1,3 +1,2 @@
 pub mod OpenedQueries
-pub mod Projected
-pub mod Spared
+pub mod Shaped

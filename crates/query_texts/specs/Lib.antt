@@ -1,4 +1,2 @@
-pub mod Frames
-pub mod Names
 pub mod QueryTexts
-pub mod Unused
+pub mod built

@@ -1,324 +1,118 @@
--- The text of a query, piece by piece.
-use Rattle.std.specs.Prelude.{ℕ, zero, suc, ◌+◌, Bool, true, false, List, [], ◌∷◌, ◌++◌, map, length, Option, Some, None, codes}
-use Rattle.std.specs.List.{flat_map, range_with_len}
-use Rattle.null_logic.specs.declared.compare.Compare.{Compare}
-use Rattle.null_logic.specs.declared.compare.Compare.TheVariants as compare
+-- The text of a query: one SELECT for a block of SQL.
+use Rattle.std.specs.Prelude.{ℕ, ◌+◌, Bool, false, cond, List, [], ◌∷◌, ◌++◌, map, length, codes}
 use Rattle.perm_values.specs.declared.key.Key.{Key}
-use Rattle.perm_values.specs.declared.kind.Kind.{Kind}
-use Rattle.perm_values.specs.declared.kind.Kind.TheVariants as kinds
-use Rattle.bag_algebra.specs.Kinds.{width_of}
+use Rattle.bag_algebra.specs.Kinds.{kinds_of, width_of}
 use Rattle.bag_algebra.specs.built.Patterns.{BaseOf, FilterOf, ProjectOf, JoinOf, ApplyOf, UnionOf, IntersectOf, ExceptOf, DistinctOf, AggregateOf, LimitOf, ProvOf}
-use Rattle.bag_algebra.specs.declared.expr.Expr.{Expr}
-use Rattle.bag_algebra.specs.declared.expr.Item.{Item}
-use Rattle.bag_algebra.specs.declared.query.AggFn.{AggFn}
-use Rattle.bag_algebra.specs.declared.query.AggFn.TheVariants as agg
-use Rattle.bag_algebra.specs.declared.query.Aggr.{Aggr}
 use Rattle.bag_algebra.specs.declared.query.JoinKind.{JoinKind}
-use Rattle.bag_algebra.specs.declared.query.JoinKind.TheVariants as join
 use Rattle.bag_algebra.specs.declared.query.Query.{Query, Row_of-Sublink, more_of-Sublink, end_of-Sublink}
 use Rattle.bag_algebra.specs.declared.query.Query.TheVariants.{Table, Single}
-use Rattle.bag_algebra.specs.declared.query.SubKind.{SubKind}
-use Rattle.bag_algebra.specs.declared.query.SubKind.TheVariants as ask
 use Rattle.bag_algebra.specs.declared.query.Sublink.{Sublink}
-use Rattle.query_texts.specs.Names.{Naming, naming, own, deeper, names_of, outermost}
-use Rattle.query_texts.specs.Unused.{used_in, items_use, spare}
-use Rattle.query_texts.specs.declared.tables.TableNames.{TableNames}
-use Rattle.expression_texts.specs.ExpressionTexts.{expr_bytes}
-use Rattle.expression_texts.specs.Words.{name_text, number_text, reference_text, null_text, unsaid_text, unless_none}
+use Rattle.clause_texts.specs.Chains.{is_chained}
+use Rattle.clause_texts.specs.ClauseTexts.{asked_text, beside_joined, beside_lateral, called_items, columns_text, condition_text, groups_text, key_texts, limited_text, over_text, projecting_text, set_text, table_text, unread_text, where_text}
+use Rattle.clause_texts.specs.Names.{Naming, deeper, naming, names_of, outermost, own}
+use Rattle.clause_texts.specs.declared.tables.TableNames.{TableNames}
+use Rattle.expression_texts.specs.Words.{is_any, unless_none}
 
--- ---- SELECT lists
+-- what a query is written as
+pub record Written : Type 0 where
+  -- by itself, with its columns called so
+  pub whole : Naming → List ℕ
+  -- behind the word SELECT, in one SELECT that gives its columns
+  pub listed : Naming → List ℕ
+  -- FROM and WHERE that give its columns
+  pub block : List ℕ
+  -- FROM that gives its columns, and that joins may follow
+  pub from : List ℕ
 
--- what stands before the item of a number
-abbrev pub comma : ℕ → List ℕ
-comma zero = []
-comma (suc number) = codes ", "
+abbrev pub select : List ℕ → List ℕ
+select listed = codes "SELECT " ++ listed
 
--- AS and the name of the item of a number
-abbrev pub as_text : Naming → ℕ → List ℕ
-as_text out number = codes "AS " ++ reference_text out.prefix 0 (out.first + number)
+-- what is written by itself alone
+abbrev pub a_whole : List ℕ → ℕ → (Naming → List ℕ) → Written
+a_whole prefix count whole = record {
+  whole = whole;
+  listed = λ out. columns_text prefix out count ++ over_text (whole (own prefix));
+  block = over_text (whole (own prefix));
+  from = over_text (whole (own prefix));
+}
 
-abbrev pub item_text : Naming → ℕ → List ℕ → List ℕ
-item_text out number text = comma number ++ (text ++ as_text out number)
+-- one SELECT
+abbrev pub a_select : List ℕ → (Naming → List ℕ) → Written
+a_select prefix listed = record {
+  whole = λ out. select (listed out);
+  listed = listed;
+  block = over_text (select (listed (own prefix)));
+  from = over_text (select (listed (own prefix)));
+}
 
--- a list without items has one that is read nowhere
-abbrev pub unread_text : List ℕ → List ℕ → ℕ → List ℕ
-unread_text prefix word zero = word ++ (codes "AS " ++ reference_text prefix 0 0)
-unread_text prefix word (suc count) = []
+-- FROM and WHERE that give so many columns, and that joins may follow or not
+abbrev pub a_block : List ℕ → ℕ → Bool → List ℕ → Written
+a_block prefix count followed block = record {
+  whole = λ out. select (columns_text prefix out count ++ block);
+  listed = λ out. columns_text prefix out count ++ block;
+  block = block;
+  from = cond followed block (over_text (select (columns_text prefix (own prefix) count ++ block)));
+}
 
--- the columns of a node's own row, so many of them
-abbrev pub column_item : List ℕ → Naming → ℕ → List ℕ
-column_item prefix out number = item_text out number (reference_text prefix 0 (number + 1))
+-- what is written by itself alone, unless it may stand in one FROM with others
+abbrev pub apart_unless : List ℕ → ℕ → Bool → Written → Written
+apart_unless prefix count chained w = cond chained w (a_whole prefix count w.whole)
 
-abbrev pub column_items : List ℕ → Naming → ℕ → List ℕ
-column_items prefix out count = flat_map (column_item prefix out) (range_with_len 0 count)
-
-abbrev pub columns_text : List ℕ → Naming → ℕ → List ℕ
-columns_text prefix out count = unread_text out.prefix (codes "1 ") count ++ column_items prefix out count
-
-abbrev pub named_items : Naming → ℕ → List (List ℕ) → List ℕ
-named_items out number [] = []
-named_items out number (name ∷ names) = item_text out number (name_text name) ++ named_items out (number + 1) names
-
--- ---- clauses
-
-abbrev pub over_text : List ℕ → List ℕ
-over_text q = codes "FROM ( " ++ (q ++ codes ") AS \"t1\" ")
-
-abbrev pub select_text : List ℕ → Naming → ℕ → List ℕ
-select_text prefix out count = codes "SELECT " ++ columns_text prefix out count
-
-abbrev pub copied_text : List ℕ → Naming → ℕ → List ℕ → List ℕ
-copied_text prefix out count q = select_text prefix out count ++ over_text q
-
--- the columns of a table
-abbrev pub listed_text : Naming → List ℕ → List (List ℕ) → List ℕ
-listed_text out name columns =
-    codes "SELECT " ++ (unread_text out.prefix (codes "1 ") (length columns) ++ (named_items out 0 columns ++ (codes "FROM " ++ name_text name)))
-
-abbrev pub table_text : Naming → TableNames → List ℕ
-table_text out table = listed_text out table.name table.columns
-
--- of what has no columns
-abbrev pub single_text : List ℕ → List ℕ
-single_text prefix = codes "SELECT " ++ unread_text prefix (codes "1 ") 0
-
--- ---- expressions beside which unused sublinks stand
-
-abbrev pub never_text : Kind → List ℕ → List ℕ
-never_text kind sub = codes "WHEN ( ( " ++ (sub ++ (codes "IS NULL ) IS NULL ) THEN " ++ null_text kind))
-
-abbrev pub nevers_text : Kind → List (List ℕ) → List ℕ
-nevers_text kind unused = flat_map (never_text kind) unused
-
-abbrev pub beside_front : Kind → List (List ℕ) → List ℕ
-beside_front kind unused =
-    unless_none (length unused) (codes "CASE ") ++ (nevers_text kind unused ++ unless_none (length unused) (codes "ELSE "))
-
-abbrev pub beside_back : List (List ℕ) → List ℕ
-beside_back unused = unless_none (length unused) (codes "END ")
-
-abbrev pub beside_text : Kind → List (List ℕ) → List ℕ → List ℕ
-beside_text kind unused text = beside_front kind unused ++ (text ++ beside_back unused)
-
-abbrev pub condition_text : List ℕ → List (List ℕ) → Expr → List ℕ
-condition_text prefix subs condition =
-    beside_text kinds.Boolean (spare (used_in condition) 0 subs) (expr_bytes prefix subs condition)
-
-abbrev pub where_text : List ℕ → List (List ℕ) → Expr → List ℕ
-where_text prefix subs condition = codes "WHERE " ++ condition_text prefix subs condition
-
-abbrev pub expr_items : List ℕ → Naming → List (List ℕ) → ℕ → List Item → List ℕ
-expr_items prefix out subs number [] = []
-expr_items prefix out subs number (item ∷ items) =
-    item_text out number (expr_bytes prefix subs item.expr) ++ expr_items prefix out subs (number + 1) items
-
--- the sublinks that no item uses stand beside the first
-abbrev pub projected_text : List ℕ → Naming → List (List ℕ) → List (List ℕ) → List Item → List ℕ
-projected_text prefix out subs unused [] = unread_text out.prefix (beside_text kinds.Integer unused (codes "1 ")) 0
-projected_text prefix out subs unused (item ∷ items) =
-    beside_text item.kind unused (expr_bytes prefix subs item.expr) ++ (as_text out 0 ++ expr_items prefix out subs 1 items)
-
-abbrev pub projecting_text : List ℕ → Naming → List (List ℕ) → List Item → List ℕ
-projecting_text prefix out subs items = codes "SELECT " ++ projected_text prefix out subs (spare (items_use items) 0 subs) items
-
--- ---- joins
-
-abbrev pub join_text : JoinKind → List ℕ
-join_text join.Inner = codes "JOIN ( "
-join_text join.Left = codes "LEFT JOIN ( "
-join_text join.Right = codes "RIGHT JOIN ( "
-join_text join.Full = codes "FULL JOIN ( "
-
-abbrev pub lateral_text : JoinKind → List ℕ
-lateral_text join.Inner = codes "CROSS JOIN LATERAL ( "
-lateral_text join.Left = codes "LEFT JOIN LATERAL ( "
-lateral_text join.Right = codes "CROSS JOIN LATERAL ( "
-lateral_text join.Full = codes "CROSS JOIN LATERAL ( "
-
-abbrev pub lateral_back : JoinKind → List ℕ
-lateral_back join.Inner = codes ") AS \"t2\" "
-lateral_back join.Left = codes ") AS \"t2\" ON TRUE "
-lateral_back join.Right = codes ") AS \"t2\" "
-lateral_back join.Full = codes ") AS \"t2\" "
-
--- the query on the right, and what it is joined on
-abbrev pub beside_joined : JoinKind → List ℕ → List ℕ
-beside_joined kind q = join_text kind ++ (q ++ codes ") AS \"t2\" ON ")
-
-abbrev pub beside_lateral : JoinKind → List ℕ → List ℕ
-beside_lateral kind q = lateral_text kind ++ (q ++ lateral_back kind)
-
-abbrev pub set_text : List ℕ → Bool → List ℕ
-set_text word true = word ++ codes "ALL "
-set_text word false = word
-
--- ---- groups
-
-abbrev pub argument_text : List ℕ → Option Expr → List ℕ
-argument_text prefix None = codes "1 "
-argument_text prefix (Some part) = expr_bytes prefix [] part
-
--- an aggregate of a column
-abbrev pub folded_text : List ℕ → List ℕ → List ℕ
-folded_text word column = word ++ (column ++ codes ") ")
-
-abbrev pub aggregated_text : AggFn → List ℕ → List ℕ
-aggregated_text agg.CountRows column = codes "COUNT ( * ) "
-aggregated_text agg.Count column = folded_text (codes "COUNT ( ") column
-aggregated_text agg.CountDistinct column = folded_text (codes "COUNT ( DISTINCT ") column
-aggregated_text agg.Sum column = folded_text (codes "SUM ( ") column
-aggregated_text agg.Min column = folded_text (codes "MIN ( ") column
-aggregated_text agg.Max column = folded_text (codes "MAX ( ") column
-
-abbrev pub group_items : List ℕ → ℕ → List ℕ → List ℕ
-group_items prefix number [] = []
-group_items prefix number (place ∷ places) = item_text (own prefix) number (reference_text prefix 0 (place + 1)) ++ group_items prefix (number + 1) places
-
-abbrev pub argument_items : List ℕ → ℕ → List Aggr → List ℕ
-argument_items prefix number [] = []
-argument_items prefix number (aggregate ∷ aggregates) =
-    item_text (own prefix) number (argument_text prefix aggregate.argument) ++ argument_items prefix (number + 1) aggregates
-
-abbrev pub aggregate_items : List ℕ → Naming → ℕ → List Aggr → List ℕ
-aggregate_items prefix out number [] = []
-aggregate_items prefix out number (aggregate ∷ aggregates) =
-    item_text out number (aggregated_text aggregate.function (reference_text prefix 0 (number + 1))) ++ aggregate_items prefix out (number + 1) aggregates
-
--- what is grouped: the columns that are, and the arguments
-abbrev pub below_text : List ℕ → List ℕ → List Aggr → List ℕ
-below_text prefix groups aggregates =
-    codes "SELECT " ++ (unread_text prefix (codes "1 ") (length groups + length aggregates)
-    ++ (group_items prefix 0 groups ++ argument_items prefix (length groups) aggregates))
-
-abbrev pub grouped_column : List ℕ → ℕ → List ℕ
-grouped_column prefix number = comma number ++ reference_text prefix 0 (number + 1)
-
-abbrev pub grouped_columns : List ℕ → ℕ → List ℕ
-grouped_columns prefix count = flat_map (grouped_column prefix) (range_with_len 0 count)
-
-abbrev pub grouped_text : List ℕ → ℕ → List ℕ
-grouped_text prefix count = unless_none count (codes "GROUP BY ") ++ grouped_columns prefix count
-
-abbrev pub above_text : List ℕ → Naming → ℕ → List Aggr → List ℕ
-above_text prefix out count aggregates =
-    codes "SELECT " ++ (unread_text out.prefix (codes "COUNT ( * ) ") (count + length aggregates)
-    ++ (column_items prefix out count ++ aggregate_items prefix out count aggregates))
-
-abbrev pub groups_text : List ℕ → Naming → List ℕ → List Aggr → List ℕ → List ℕ
-groups_text prefix out groups aggregates q =
-    above_text prefix out (length groups) aggregates
-    ++ (over_text (below_text prefix groups aggregates ++ over_text q) ++ grouped_text prefix (length groups))
-
--- ---- order
-
-abbrev pub direction_text : Bool → List ℕ
-direction_text true = codes "DESC "
-direction_text false = []
-
-abbrev pub key_text : ℕ → Key → List ℕ
-key_text number key = comma number ++ (number_text (key.place + 1) ++ direction_text key.descending)
-
-abbrev pub key_texts : ℕ → List Key → List ℕ
-key_texts number [] = []
-key_texts number (key ∷ keys) = key_text number key ++ key_texts (number + 1) keys
-
--- positions of all columns, behind so many keys
-abbrev pub position_text : ℕ → ℕ → List ℕ
-position_text keys number = comma (keys + number) ++ number_text (number + 1)
-
-abbrev pub position_texts : ℕ → ℕ → List ℕ
-position_texts keys count = flat_map (position_text keys) (range_with_len 0 count)
-
-abbrev pub order_text : List Key → ℕ → List ℕ
-order_text keys count =
-    unless_none (length keys + count) (codes "ORDER BY ") ++ (key_texts 0 keys ++ position_texts (length keys) count)
-
-abbrev pub limited_text : List Key → ℕ → ℕ → List ℕ
-limited_text keys columns count = order_text keys columns ++ (codes "LIMIT " ++ number_text count)
-
--- ---- sublinks
-
-abbrev pub any_text : Compare → List ℕ
-any_text compare.Equal = codes "IN ( "
-any_text compare.NotEqual = codes "<> ANY ( "
-any_text compare.Less = codes "< ANY ( "
-any_text compare.LessEqual = codes "<= ANY ( "
-any_text compare.Greater = codes "> ANY ( "
-any_text compare.GreaterEqual = codes ">= ANY ( "
-
-abbrev pub all_text : Compare → List ℕ
-all_text compare.Equal = codes "= ALL ( "
-all_text compare.NotEqual = codes "NOT IN ( "
-all_text compare.Less = codes "< ALL ( "
-all_text compare.LessEqual = codes "<= ALL ( "
-all_text compare.Greater = codes "> ALL ( "
-all_text compare.GreaterEqual = codes ">= ALL ( "
-
-abbrev pub part_text : List ℕ → Option Expr → List ℕ
-part_text prefix None = unsaid_text
-part_text prefix (Some part) = expr_bytes prefix [] part
-
--- what ANY and ALL compare
-abbrev pub tested_text : List ℕ → Option Expr → List ℕ → List ℕ
-tested_text prefix tested word = codes "( " ++ (part_text prefix tested ++ word)
-
--- what stands before the query of a sublink, and behind it
-abbrev pub asking_text : List ℕ → SubKind → Option Expr → List ℕ
-asking_text prefix ask.Exists tested = codes "EXISTS ( "
-asking_text prefix (ask.Any c) tested = tested_text prefix tested (any_text c)
-asking_text prefix (ask.All c) tested = tested_text prefix tested (all_text c)
-asking_text prefix ask.Scalar tested = codes "( "
-
-abbrev pub asked_back : SubKind → List ℕ
-asked_back ask.Exists = codes ") "
-asked_back (ask.Any c) = codes ") ) "
-asked_back (ask.All c) = codes ") ) "
-asked_back ask.Scalar = codes ") "
-
-abbrev pub asked_text : List ℕ → SubKind → Option Expr → List ℕ → List ℕ
-asked_text prefix kind tested q = asking_text prefix kind tested ++ (q ++ asked_back kind)
+-- FROM that ends in a join
+abbrev pub join_block : List ℕ → JoinKind → ℕ → Written → Written → List ℕ → List ℕ
+join_block prefix kind width left right on =
+    (apart_unless prefix width (is_chained kind) left).from
+    ++ (beside_joined kind (width + 1) (right.whole (naming prefix (width + 1))) ++ on)
 
 -- ---- queries
 
+-- The columns of what a join brings stand right behind those of its left side, and its source is called by the number of the first: no join
+-- follows one whose right side has none.
 abbrev mutual
-  pub query_bytes : List TableNames → List ℕ → Naming → Query → List ℕ
-  query_bytes tables prefix out (Table id kinds) = table_text out (names_of tables id)
-  query_bytes tables prefix out Single = single_text out.prefix
-  query_bytes tables prefix out (BaseOf input places label) = query_bytes tables prefix out input
-  query_bytes tables prefix out (FilterOf input condition _ subs) =
-      copied_text prefix out (width_of input) (query_bytes tables prefix (own prefix) input)
-      ++ where_text prefix (sub_texts tables prefix subs) condition
-  query_bytes tables prefix out (ProjectOf input items _ subs) =
-      projecting_text prefix out (sub_texts tables prefix subs) items ++ over_text (query_bytes tables prefix (own prefix) input)
-  query_bytes tables prefix out (JoinOf kind left right condition _ subs) =
-      copied_text prefix out (width_of left + width_of right) (query_bytes tables prefix (own prefix) left)
-      ++ (beside_joined kind (query_bytes tables prefix (naming prefix (width_of left + 1)) right)
-      ++ condition_text prefix (sub_texts tables prefix subs) condition)
-  query_bytes tables prefix out (ApplyOf kind left right) =
-      copied_text prefix out (width_of left + width_of right) (query_bytes tables prefix (own prefix) left)
-      ++ beside_lateral kind (query_bytes tables (deeper prefix) (naming prefix (width_of left + 1)) right)
-  query_bytes tables prefix out (UnionOf all left right) =
-      copied_text prefix out (width_of left) (query_bytes tables prefix (own prefix) left)
-      ++ (set_text (codes "UNION ") all ++ copied_text prefix out (width_of right) (query_bytes tables prefix (own prefix) right))
-  query_bytes tables prefix out (IntersectOf all left right) =
-      copied_text prefix out (width_of left) (query_bytes tables prefix (own prefix) left)
-      ++ (set_text (codes "INTERSECT ") all ++ copied_text prefix out (width_of right) (query_bytes tables prefix (own prefix) right))
-  query_bytes tables prefix out (ExceptOf all left right) =
-      copied_text prefix out (width_of left) (query_bytes tables prefix (own prefix) left)
-      ++ (set_text (codes "EXCEPT ") all ++ copied_text prefix out (width_of right) (query_bytes tables prefix (own prefix) right))
-  query_bytes tables prefix out (DistinctOf input) =
-      codes "SELECT DISTINCT " ++ (columns_text prefix out (width_of input) ++ over_text (query_bytes tables prefix (own prefix) input))
-  query_bytes tables prefix out (AggregateOf input groups aggregates) =
-      groups_text prefix out groups aggregates (query_bytes tables prefix (own prefix) input)
-  query_bytes tables prefix out (LimitOf input keys count) =
-      copied_text prefix out (width_of input) (query_bytes tables prefix (own prefix) input)
-      ++ limited_text keys (width_of input) count
-  query_bytes tables prefix out (ProvOf input) = query_bytes tables prefix out input
+  pub written : List TableNames → List ℕ → Query → Written
+  written tables prefix (Table id kinds) = a_select prefix (λ out. table_text out (names_of tables id))
+  written tables prefix Single = a_select prefix (λ out. unread_text out.prefix (codes "1 ") 0)
+  written tables prefix (BaseOf input places label) = a_whole prefix (width_of input) (written tables prefix input).whole
+  written tables prefix (FilterOf input condition _ subs) =
+      a_block prefix (width_of input) false
+      ((written tables prefix input).from ++ where_text prefix (sub_texts tables prefix subs) condition)
+  written tables prefix (ProjectOf input items _ subs) =
+      a_select prefix (λ out. projecting_text prefix out (sub_texts tables prefix subs) items ++ (written tables prefix input).block)
+  written tables prefix (JoinOf kind left right condition _ subs) =
+      apart_unless prefix (length (kinds_of left ++ kinds_of right)) (is_chained kind)
+      (a_block prefix (length (kinds_of left ++ kinds_of right)) (is_any (width_of right))
+      (join_block prefix kind (width_of left) (written tables prefix left) (written tables prefix right)
+      (condition_text prefix (sub_texts tables prefix subs) condition)))
+  written tables prefix (ApplyOf kind left right) =
+      a_block prefix (length (kinds_of left ++ kinds_of right)) (is_any (width_of right))
+      ((written tables prefix left).from
+      ++ beside_lateral kind (width_of left + 1) ((written tables (deeper prefix) right).whole (naming prefix (width_of left + 1))))
+  written tables prefix (UnionOf all left right) =
+      a_whole prefix (width_of left) (λ out. select ((written tables prefix left).listed out)
+      ++ (set_text (codes "UNION ") all ++ select ((written tables prefix right).listed out)))
+  written tables prefix (IntersectOf all left right) =
+      a_whole prefix (width_of left) (λ out. select ((written tables prefix left).listed out)
+      ++ (set_text (codes "INTERSECT ") all ++ select ((written tables prefix right).listed out)))
+  written tables prefix (ExceptOf all left right) =
+      a_whole prefix (width_of left) (λ out. select ((written tables prefix left).listed out)
+      ++ (set_text (codes "EXCEPT ") all ++ select ((written tables prefix right).listed out)))
+  written tables prefix (DistinctOf input) =
+      a_whole prefix (width_of input) (λ out. codes "SELECT DISTINCT " ++ (written tables prefix input).listed out)
+  written tables prefix (AggregateOf input groups aggregates) =
+      a_whole prefix (width_of (AggregateOf input groups aggregates)) (λ out. groups_text prefix out groups aggregates (written tables prefix input).block)
+  written tables prefix (LimitOf input keys count) =
+      a_whole prefix (width_of input)
+      (λ out. select ((written tables prefix input).listed out) ++ limited_text keys (width_of input) count)
+  written tables prefix (ProvOf input) = a_whole prefix (width_of (ProvOf input)) (written tables prefix input).whole
 
   pub sub_texts : List TableNames → List ℕ → {m : _} → Row_of-Sublink m → List (List ℕ)
   sub_texts tables prefix end_of-Sublink = []
   sub_texts tables prefix (more_of-Sublink kind tested query subs) =
-      asked_text prefix kind tested (query_bytes tables (deeper prefix) (own (deeper prefix)) query) ∷ sub_texts tables prefix subs
+      asked_text prefix kind tested ((written tables (deeper prefix) query).whole (own (deeper prefix))) ∷ sub_texts tables prefix subs
+
+-- the text of a query
+abbrev pub query_bytes : List TableNames → List ℕ → Naming → Query → List ℕ
+query_bytes tables prefix out q = (written tables prefix q).whole out
 
 -- ---- on plain lists of children
 
@@ -330,14 +124,7 @@ subs_texts tables prefix subs = map (sub_text tables prefix) subs
 
 -- ---- answers
 
-abbrev pub called_item : ℕ → List ℕ → List ℕ
-called_item number name = comma number ++ (reference_text outermost 0 (number + 1) ++ (codes "AS " ++ name_text name))
-
-abbrev pub called_items : ℕ → List (List ℕ) → List ℕ
-called_items number [] = []
-called_items number (name ∷ names) = called_item number name ++ called_items (number + 1) names
-
 abbrev pub answer_bytes : List TableNames → Query → List (List ℕ) → List Key → List ℕ
 answer_bytes tables q names keys =
-    codes "SELECT " ++ (unread_text outermost (codes "1 ") (length names) ++ (called_items 0 names
-    ++ (over_text (query_bytes tables outermost (own outermost) q) ++ (unless_none (length keys) (codes "ORDER BY ") ++ key_texts 0 keys))))
+    select (unread_text outermost (codes "1 ") (length names) ++ (called_items 0 names
+    ++ ((written tables outermost q).block ++ (unless_none (length keys) (codes "ORDER BY ") ++ key_texts 0 keys))))

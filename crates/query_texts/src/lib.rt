@@ -1,15 +1,7 @@
-//! Writes queries of the algebra as SQL.
+//! Writes queries of the algebra as SQL: one SELECT for a block of SQL.
 #![tactic(auto)]
 
-mod clauses;
-mod counts;
-mod frame;
-mod groups;
-mod lists;
 mod queries;
-mod sublinks;
-mod tables;
-mod words;
+mod shapes;
 
 pub use queries::query_text;
-pub use tables::TableNames;

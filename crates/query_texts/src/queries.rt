@@ -1,49 +1,24 @@
-//! Writes queries: each node is a SELECT of its own.
-ghost use Rattle.std.specs.Prelude.{◌≡◌, ◌+◌, ◌++◌, codes, IfOk, OnOk};
+//! Writes queries: one SELECT for a block of SQL.
+ghost use Rattle.std.specs.Prelude.{◌≡◌, ◌+◌, ◌++◌, IfOk, OnOk};
 ghost use Rattle.bag_algebra.specs.Kinds.{width_of};
-ghost use Rattle.query_texts.specs.Frames.{called_in};
-ghost use Rattle.query_texts.specs.Names.{deeper, naming, own};
-ghost use Rattle.query_texts.specs.QueryTexts.{answer_bytes, beside_joined, beside_lateral, columns_text, copied_text, groups_text, limited_text, over_text, query_bytes, set_text, sub_text, subs_texts};
+ghost use Rattle.clause_texts.specs.Chains.{is_chained};
+ghost use Rattle.clause_texts.specs.ClauseTexts.{beside_joined, beside_lateral, columns_text, groups_text};
+ghost use Rattle.clause_texts.specs.Frames.{called_in};
+ghost use Rattle.clause_texts.specs.Names.{deeper, naming};
+ghost use Rattle.query_texts.specs.QueryTexts.{answer_bytes, apart_unless, query_bytes, sub_text, subs_texts, written};
+ghost use Rattle.query_texts.specs.built.Parts.{block_part, over_bytes, select_part};
 
-use crate::clauses::{push_condition, push_projecting, push_where};
-use crate::counts::columns_of;
-use crate::frame::Frame;
-use crate::groups::{push_above, push_below, push_grouped};
-use crate::lists::{
-    push_called, push_columns, push_keys, push_order, push_select, push_single, push_table,
-    push_unread,
-};
-use crate::sublinks::push_asking;
-use crate::tables::TableNames;
-use crate::words::{asked_back, join_text, lateral_back, lateral_text};
+use crate::shapes::{is_block, is_chain, is_chained, is_select};
 use bag_algebra::{Aggr, Answer, JoinKind, Query, Sublink};
+use clause_texts::{
+    Frame, TableNames, asked_back, columns_of, deeper, join_text, lateral_text, push_above,
+    push_asking, push_below, push_called, push_columns, push_condition, push_grouped, push_keys,
+    push_lateral_source, push_limit, push_projecting, push_set, push_source, push_table,
+    push_unread, push_where,
+};
 use expression_texts::{Draft, behind};
-use perm_values::{Bytes, Key, List, NoMemory};
+use perm_values::{Bytes, List, NoMemory};
 use std::alloc::Global;
-
-fn deeper(alloc: Global, prefix: &[u8]) -> Result<Bytes, NoMemory>
-    ensures { IfOk result (λ longer. longer ≡ deeper prefix.now) }
-{
-    let mut longer = Bytes::new(alloc);
-    longer.add(b"c")?;
-    longer.add(prefix)?;
-    Ok(longer)
-}
-
-fn push_set(word: &[u8], all: bool, draft: &mut Draft) -> Result<(), NoMemory>
-    ensures { OnOk result (draft.new ≡ draft.old ++ set_text word.now all) }
-{
-    draft.push(word)?;
-    if all { draft.push(b"ALL ") } else { Ok(()) }
-}
-
-fn push_limit(keys: &[Key], columns: usize, count: u64, draft: &mut Draft) -> Result<(), NoMemory>
-    ensures { OnOk result (draft.new ≡ draft.old ++ limited_text keys.now columns count) }
-{
-    push_order(keys, columns, draft)?;
-    draft.push(b"LIMIT ")?;
-    draft.push_number(count)
-}
 
 /// Writes a query in a frame.
 #[cycle(push_query)]
@@ -52,59 +27,56 @@ fn push_query(frame: &Frame, query: &Query, draft: &mut Draft) -> Result<(), NoM
         ++ query_bytes frame.now.tables.now frame.now.prefix.now (called_in frame.now) query.now) }
 {
     match query {
-        Query::Table { id, .. } => push_table(frame, *id, draft),
-        Query::Single => push_single(frame.out, draft),
+        Query::Table { .. } => {
+            draft.push(b"SELECT ")?;
+            push_part(frame, query, draft)
+        }
+        Query::Single => {
+            draft.push(b"SELECT ")?;
+            push_part(frame, query, draft)
+        }
         Query::Base { input, .. } => push_query(frame, input.get(), draft),
-        Query::Filter {
-            input,
-            condition,
-            subs,
-        } => {
-            let texts = sub_texts(frame, subs.as_slice(), draft.alloc())?;
-            push_copied(frame, input.get(), draft)?;
-            push_where(frame, texts.as_slice(), condition, draft)
+        Query::Filter { .. } => {
+            draft.push(b"SELECT ")?;
+            push_part(frame, query, draft)
         }
-        Query::Project { input, items, subs } => {
-            let texts = sub_texts(frame, subs.as_slice(), draft.alloc())?;
-            push_projecting(frame, texts.as_slice(), items.as_slice(), draft)?;
-            push_over(frame, input.get(), draft)
+        Query::Project { .. } => {
+            draft.push(b"SELECT ")?;
+            push_part(frame, query, draft)
         }
-        Query::Join {
-            kind,
-            left,
-            right,
-            condition,
-            subs,
-        } => {
-            let texts = sub_texts(frame, subs.as_slice(), draft.alloc())?;
-            let width = columns_of(right.get())?;
-            push_left(frame, width, left.get(), draft)?;
-            let before = columns_of(left.get())?;
-            push_joined(frame, *kind, before, right.get(), draft)?;
-            push_condition(frame, texts.as_slice(), condition, draft)
+        Query::Join { .. } => {
+            draft.push(b"SELECT ")?;
+            push_part(frame, query, draft)
         }
-        Query::Apply { kind, left, right } => {
-            let width = columns_of(right.get())?;
-            push_left(frame, width, left.get(), draft)?;
-            let before = columns_of(left.get())?;
-            push_lateral(frame, *kind, before, right.get(), draft)
+        Query::Apply { .. } => {
+            draft.push(b"SELECT ")?;
+            push_part(frame, query, draft)
         }
         Query::Union { all, left, right } => {
-            push_copied(frame, left.get(), draft)?;
+            draft.push(b"SELECT ")?;
+            push_listed(frame, left.get(), draft)?;
             push_set(b"UNION ", *all, draft)?;
-            push_copied(frame, right.get(), draft)
+            draft.push(b"SELECT ")?;
+            push_listed(frame, right.get(), draft)
         }
         Query::Intersect { all, left, right } => {
-            push_copied(frame, left.get(), draft)?;
+            draft.push(b"SELECT ")?;
+            push_listed(frame, left.get(), draft)?;
             push_set(b"INTERSECT ", *all, draft)?;
-            push_copied(frame, right.get(), draft)
+            draft.push(b"SELECT ")?;
+            push_listed(frame, right.get(), draft)
         }
         Query::Except { all, left, right } => {
-            push_copied(frame, left.get(), draft)?;
+            draft.push(b"SELECT ")?;
+            push_listed(frame, left.get(), draft)?;
             push_set(b"EXCEPT ", *all, draft)?;
-            push_copied(frame, right.get(), draft)
+            draft.push(b"SELECT ")?;
+            push_listed(frame, right.get(), draft)
         }
-        Query::Distinct { input } => push_distinct(frame, input.get(), draft),
+        Query::Distinct { input } => {
+            draft.push(b"SELECT DISTINCT ")?;
+            push_listed(frame, input.get(), draft)
+        }
         Query::Aggregate {
             input,
             groups,
@@ -117,17 +89,163 @@ fn push_query(frame: &Frame, query: &Query, draft: &mut Draft) -> Result<(), NoM
             draft,
         ),
         Query::Limit { input, keys, count } => {
-            push_limited(frame, input.get(), keys.as_slice(), *count, draft)
+            let columns = columns_of(input.get())?;
+            draft.push(b"SELECT ")?;
+            push_listed(frame, input.get(), draft)?;
+            push_limit(keys.as_slice(), columns, *count, draft)
         }
         Query::Prov { input } => push_query(frame, input.get(), draft),
     }
 }
 
+/// What stands behind the word of a query that is one SELECT, and nothing of any other.
+#[cycle(push_query)]
+fn push_part(frame: &Frame, query: &Query, draft: &mut Draft) -> Result<(), NoMemory>
+    ensures { OnOk result (draft.new ≡ draft.old
+        ++ select_part frame.now.tables.now frame.now.prefix.now (called_in frame.now) query.now) }
+{
+    match query {
+        Query::Table { id, .. } => push_table(frame, *id, draft),
+        Query::Single => push_unread(frame.out, b"1 ", 0, draft),
+        Query::Base { .. } => Ok(()),
+        Query::Filter { .. } => push_all(frame, query, draft),
+        Query::Project { input, items, subs } => {
+            let texts = sub_texts(frame, subs.as_slice(), draft.alloc())?;
+            push_projecting(frame, texts.as_slice(), items.as_slice(), draft)?;
+            push_block(frame, input.get(), draft)
+        }
+        Query::Join { .. } => push_all(frame, query, draft),
+        Query::Apply { .. } => push_all(frame, query, draft),
+        Query::Union { .. } => Ok(()),
+        Query::Intersect { .. } => Ok(()),
+        Query::Except { .. } => Ok(()),
+        Query::Distinct { .. } => Ok(()),
+        Query::Aggregate { .. } => Ok(()),
+        Query::Limit { .. } => Ok(()),
+        Query::Prov { .. } => Ok(()),
+    }
+}
+
+/// All columns of a query that is written as FROM and WHERE, and these.
+#[cycle(push_query)]
+fn push_all(frame: &Frame, query: &Query, draft: &mut Draft) -> Result<(), NoMemory>
+    ensures { OnOk result (draft.new ≡ draft.old
+        ++ (columns_text frame.now.prefix.now (called_in frame.now) (width_of query.now)
+        ++ block_part frame.now.tables.now frame.now.prefix.now query.now)) }
+{
+    let count = columns_of(query)?;
+    push_columns(frame, count, draft)?;
+    push_bare(frame, query, draft)
+}
+
+/// FROM and WHERE of a query that is written as these, and nothing of any other.
+#[cycle(push_query)]
+fn push_bare(frame: &Frame, query: &Query, draft: &mut Draft) -> Result<(), NoMemory>
+    ensures { OnOk result (draft.new ≡ draft.old
+        ++ block_part frame.now.tables.now frame.now.prefix.now query.now) }
+{
+    match query {
+        Query::Filter {
+            input,
+            condition,
+            subs,
+        } => {
+            let texts = sub_texts(frame, subs.as_slice(), draft.alloc())?;
+            push_from(frame, input.get(), draft)?;
+            push_where(frame, texts.as_slice(), condition, draft)
+        }
+        Query::Join {
+            kind,
+            left,
+            right,
+            condition,
+            subs,
+        } => {
+            let texts = sub_texts(frame, subs.as_slice(), draft.alloc())?;
+            let before = columns_of(left.get())?;
+            push_left(frame, *kind, left.get(), draft)?;
+            push_joined(frame, *kind, before, right.get(), draft)?;
+            push_condition(frame, texts.as_slice(), condition, draft)
+        }
+        Query::Apply { kind, left, right } => {
+            let before = columns_of(left.get())?;
+            push_from(frame, left.get(), draft)?;
+            push_lateral(frame, *kind, before, right.get(), draft)
+        }
+        Query::Table { .. } => Ok(()),
+        Query::Single => Ok(()),
+        Query::Base { .. } => Ok(()),
+        Query::Project { .. } => Ok(()),
+        Query::Union { .. } => Ok(()),
+        Query::Intersect { .. } => Ok(()),
+        Query::Except { .. } => Ok(()),
+        Query::Distinct { .. } => Ok(()),
+        Query::Aggregate { .. } => Ok(()),
+        Query::Limit { .. } => Ok(()),
+        Query::Prov { .. } => Ok(()),
+    }
+}
+
+/// FROM and WHERE that give the columns of a query.
+#[cycle(push_query)]
+fn push_block(frame: &Frame, query: &Query, draft: &mut Draft) -> Result<(), NoMemory>
+    ensures { OnOk result (draft.new ≡ draft.old
+        ++ (written frame.now.tables.now frame.now.prefix.now query.now).block) }
+{
+    if is_block(query) {
+        push_bare(frame, query, draft)
+    } else {
+        push_over(frame, query, draft)
+    }
+}
+
+/// FROM that gives the columns of a query, and that joins may follow.
+#[cycle(push_query)]
+fn push_from(frame: &Frame, query: &Query, draft: &mut Draft) -> Result<(), NoMemory>
+    ensures { OnOk result (draft.new ≡ draft.old
+        ++ (written frame.now.tables.now frame.now.prefix.now query.now).from) }
+{
+    if is_chain(query) {
+        push_bare(frame, query, draft)
+    } else {
+        push_over(frame, query, draft)
+    }
+}
+
+/// FROM on the left of a join.
+#[cycle(push_query)]
+fn push_left(frame: &Frame, kind: JoinKind, left: &Query, draft: &mut Draft) -> Result<(), NoMemory>
+    ensures { OnOk result (draft.new ≡ draft.old
+        ++ (apart_unless frame.now.prefix.now (width_of left.now) (is_chained kind)
+        (written frame.now.tables.now frame.now.prefix.now left.now)).from) }
+{
+    if is_chained(kind) {
+        push_from(frame, left, draft)
+    } else {
+        push_over(frame, left, draft)
+    }
+}
+
+/// What stands behind SELECT, in one SELECT that gives the columns of a query.
+#[cycle(push_query)]
+fn push_listed(frame: &Frame, query: &Query, draft: &mut Draft) -> Result<(), NoMemory>
+    ensures { OnOk result (draft.new ≡ draft.old
+        ++ (written frame.now.tables.now frame.now.prefix.now query.now).listed (called_in frame.now)) }
+{
+    if is_select(query) {
+        push_part(frame, query, draft)
+    } else {
+        let count = columns_of(query)?;
+        push_columns(frame, count, draft)?;
+        push_over(frame, query, draft)
+    }
+}
+
 /// FROM a query.
 #[cycle(push_query)]
-fn push_over(frame: &Frame, input: &Query, draft: &mut Draft) -> Result<(), NoMemory>
-    ensures { OnOk result (draft.new ≡ draft.old ++ over_text
-        (query_bytes frame.now.tables.now frame.now.prefix.now (own frame.now.prefix.now) input.now)) }
+fn push_over(frame: &Frame, query: &Query, draft: &mut Draft) -> Result<(), NoMemory>
+    ensures { OnOk result (draft.new ≡ draft.old
+        ++ over_bytes frame.now.tables.now frame.now.prefix.now query.now) }
 {
     draft.push(b"FROM ( ")?;
     let inner = Frame {
@@ -135,31 +253,8 @@ fn push_over(frame: &Frame, input: &Query, draft: &mut Draft) -> Result<(), NoMe
         first: 1,
         ..*frame
     };
-    push_query(&inner, input, draft)?;
-    draft.push(b") AS \"t1\" ")
-}
-
-/// All columns of a query.
-#[cycle(push_query)]
-fn push_copied(frame: &Frame, input: &Query, draft: &mut Draft) -> Result<(), NoMemory>
-    ensures { OnOk result (draft.new ≡ draft.old ++ copied_text frame.now.prefix.now (called_in frame.now) (width_of input.now)
-        (query_bytes frame.now.tables.now frame.now.prefix.now (own frame.now.prefix.now) input.now)) }
-{
-    let count = columns_of(input)?;
-    push_select(frame, count, draft)?;
-    push_over(frame, input, draft)
-}
-
-/// The columns of a query, and of one that is joined on the right; FROM the former.
-#[cycle(push_query)]
-fn push_left(frame: &Frame, beside: usize, left: &Query, draft: &mut Draft) -> Result<(), NoMemory>
-    ensures { OnOk result (draft.new ≡ draft.old ++ copied_text frame.now.prefix.now (called_in frame.now) (width_of left.now + beside)
-        (query_bytes frame.now.tables.now frame.now.prefix.now (own frame.now.prefix.now) left.now)) }
-{
-    let columns = columns_of(left)?;
-    let count = behind(columns, beside)?;
-    push_select(frame, count, draft)?;
-    push_over(frame, left, draft)
+    push_query(&inner, query, draft)?;
+    draft.push(b") AS \"t\" ")
 }
 
 /// The query on the right of a join, behind so many columns.
@@ -171,8 +266,9 @@ fn push_joined(
     right: &Query,
     draft: &mut Draft,
 ) -> Result<(), NoMemory>
-    ensures { OnOk result (draft.new ≡ draft.old ++ beside_joined kind
-        (query_bytes frame.now.tables.now frame.now.prefix.now (naming frame.now.prefix.now (before + 1)) right.now)) }
+    ensures { OnOk result (draft.new ≡ draft.old ++ beside_joined kind (before + 1)
+        (query_bytes frame.now.tables.now frame.now.prefix.now
+        (naming frame.now.prefix.now (before + 1)) right.now)) }
 {
     let first = behind(before, 1)?;
     let inner = Frame {
@@ -182,7 +278,8 @@ fn push_joined(
     };
     draft.push(join_text(kind))?;
     push_query(&inner, right, draft)?;
-    draft.push(b") AS \"t2\" ON ")
+    push_source(first, draft)?;
+    draft.push(b"ON ")
 }
 
 /// The query behind LATERAL, behind so many columns.
@@ -194,8 +291,9 @@ fn push_lateral(
     right: &Query,
     draft: &mut Draft,
 ) -> Result<(), NoMemory>
-    ensures { OnOk result (draft.new ≡ draft.old ++ beside_lateral kind
-        (query_bytes frame.now.tables.now (deeper frame.now.prefix.now) (naming frame.now.prefix.now (before + 1)) right.now)) }
+    ensures { OnOk result (draft.new ≡ draft.old ++ beside_lateral kind (before + 1)
+        (query_bytes frame.now.tables.now (deeper frame.now.prefix.now)
+        (naming frame.now.prefix.now (before + 1)) right.now)) }
 {
     let longer = deeper(draft.alloc(), frame.prefix)?;
     let prefix = longer.as_slice();
@@ -208,19 +306,7 @@ fn push_lateral(
     };
     draft.push(lateral_text(kind))?;
     push_query(&inner, right, draft)?;
-    draft.push(lateral_back(kind))
-}
-
-#[cycle(push_query)]
-fn push_distinct(frame: &Frame, input: &Query, draft: &mut Draft) -> Result<(), NoMemory>
-    ensures { OnOk result (draft.new ≡ draft.old
-        ++ (codes "SELECT DISTINCT " ++ (columns_text frame.now.prefix.now (called_in frame.now) (width_of input.now)
-        ++ over_text (query_bytes frame.now.tables.now frame.now.prefix.now (own frame.now.prefix.now) input.now)))) }
-{
-    let count = columns_of(input)?;
-    draft.push(b"SELECT DISTINCT ")?;
-    push_columns(frame, count, draft)?;
-    push_over(frame, input, draft)
+    push_lateral_source(kind, first, draft)
 }
 
 #[cycle(push_query)]
@@ -231,32 +317,16 @@ fn push_groups(
     aggregates: &[Aggr],
     draft: &mut Draft,
 ) -> Result<(), NoMemory>
-    ensures { OnOk result (draft.new ≡ draft.old ++ groups_text frame.now.prefix.now (called_in frame.now) groups.now aggregates.now
-        (query_bytes frame.now.tables.now frame.now.prefix.now (own frame.now.prefix.now) input.now)) }
+    ensures { OnOk result (draft.new ≡ draft.old
+        ++ groups_text frame.now.prefix.now (called_in frame.now) groups.now aggregates.now
+        (written frame.now.tables.now frame.now.prefix.now input.now).block) }
 {
     push_above(frame, groups.len(), aggregates, draft)?;
     draft.push(b"FROM ( ")?;
     push_below(frame.prefix, groups, aggregates, draft)?;
-    push_over(frame, input, draft)?;
-    draft.push(b") AS \"t1\" ")?;
+    push_block(frame, input, draft)?;
+    draft.push(b") AS \"t\" ")?;
     push_grouped(frame.prefix, groups.len(), draft)
-}
-
-#[cycle(push_query)]
-fn push_limited(
-    frame: &Frame,
-    input: &Query,
-    keys: &[Key],
-    count: u64,
-    draft: &mut Draft,
-) -> Result<(), NoMemory>
-    ensures { OnOk result (draft.new ≡ draft.old ++ (copied_text frame.now.prefix.now (called_in frame.now) (width_of input.now)
-        (query_bytes frame.now.tables.now frame.now.prefix.now (own frame.now.prefix.now) input.now)
-        ++ limited_text keys.now (width_of input.now) count)) }
-{
-    let columns = columns_of(input)?;
-    push_copied(frame, input, draft)?;
-    push_limit(keys, columns, count, draft)
 }
 
 /// The text of a sublink.
@@ -292,7 +362,8 @@ fn sub_texts(frame: &Frame, subs: &[Sublink], alloc: Global) -> Result<List<Byte
 }
 
 fn push_answer(tables: &[TableNames], answer: &Answer, draft: &mut Draft) -> Result<(), NoMemory>
-    ensures { OnOk result (draft.new ≡ draft.old ++ answer_bytes tables.now answer.now.query answer.now.names answer.now.keys) }
+    ensures { OnOk result (draft.new ≡ draft.old
+        ++ answer_bytes tables.now answer.now.query answer.now.names answer.now.keys) }
 {
     let frame = Frame {
         tables,
@@ -303,7 +374,7 @@ fn push_answer(tables: &[TableNames], answer: &Answer, draft: &mut Draft) -> Res
     draft.push(b"SELECT ")?;
     push_unread(frame.prefix, b"1 ", answer.names.len(), draft)?;
     push_called(answer.names.as_slice(), draft)?;
-    push_over(&frame, &answer.query, draft)?;
+    push_block(&frame, &answer.query, draft)?;
     draft.push_unless_none(answer.keys.len(), b"ORDER BY ")?;
     push_keys(answer.keys.as_slice(), draft)
 }

@@ -27,7 +27,7 @@ use Rattle.perm_catalog.specs.declared.column.Column.{Column}
 use Rattle.sql_tree.specs.declared.query.QueryTree.{QueryTree}
 use Rattle.name_meaning.specs.Statements.{query_meant}
 use Rattle.name_meaning.proofs.Equations.{tree_equations, token-given}
-use Rattle.query_texts.specs.declared.tables.TableNames.{TableNames}
+use Rattle.clause_texts.specs.declared.tables.TableNames.{TableNames}
 use Rattle.query_forms.specs.ShownQueries.{shown_answer}
 use Rattle.printed_queries.specs.Printed.{printed_answer}
 use Rattle.answer_texts.specs.Explains.{read_as}
@@ -142,6 +142,19 @@ joined-whole = simp tree_equations (rw token-given refl)
 joined-read : read_as contents (tree joined (codes "x1" ∷ codes "x2" ∷ codes "x3" ∷ []) []) ≡ answer joined (codes "x1" ∷ codes "x2" ∷ codes "x3" ∷ []) []
 unfolding digits
 joined-read = simp tree_equations (rw token-given refl)
+
+-- ---- joins of which one follows the other, and a condition
+
+abbrev chain : Query
+chain = ProjectOf (FilterOf (JoinOf join.Inner joined s (compared compare.Equal (col 1) (col 3)) none end_of-Sublink) (compared compare.Less (col 0) (num (pos 3))) none end_of-Sublink) (item (col 3) ∷ []) none end_of-Sublink
+
+chain-whole : (query_meant contents (tree chain (codes "x1" ∷ []) [])).breaks ≡ []
+unfolding digits
+chain-whole = simp tree_equations (rw token-given refl)
+
+chain-read : read_as contents (tree chain (codes "x1" ∷ []) []) ≡ answer chain (codes "x1" ∷ []) []
+unfolding digits
+chain-read = simp tree_equations (rw token-given refl)
 
 -- ---- the query on the right sees the row on the left
 

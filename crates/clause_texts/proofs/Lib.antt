@@ -1,0 +1,2 @@
+pub mod Projected
+pub mod Spared

@@ -1,0 +1,219 @@
+//! Writes SELECT lists, and keys.
+ghost use Rattle.std.specs.Prelude.{◌≡◌, ◌+◌, ◌++◌, OnOk};
+ghost use Rattle.clause_texts.specs.Frames.{called_in};
+ghost use Rattle.clause_texts.specs.Names.{names_of, naming};
+ghost use Rattle.clause_texts.specs.ClauseTexts.{as_text, called_item, called_items, column_item, column_items, columns_text, comma, item_text, key_text, key_texts, limited_text, listed_text, named_items, order_text, position_text, position_texts, table_text, unread_text};
+ghost use Rattle.expression_texts.specs.Words.{name_text};
+
+use crate::frame::Frame;
+use crate::tables::table_of;
+use crate::words::direction_text;
+use expression_texts::{Draft, behind};
+use perm_values::{Chars, Key, NoMemory};
+
+/// What stands before the item of a number.
+pub(crate) fn push_comma(number: usize, draft: &mut Draft) -> Result<(), NoMemory>
+    ensures { OnOk result (draft.new ≡ draft.old ++ comma number) }
+{
+    if number == 0 {
+        Ok(())
+    } else {
+        draft.push(b", ")
+    }
+}
+
+/// AS and the name of the item of a number.
+pub(crate) fn push_as(
+    out: &[u8],
+    first: usize,
+    number: usize,
+    draft: &mut Draft,
+) -> Result<(), NoMemory>
+    ensures { OnOk result (draft.new ≡ draft.old ++ as_text (naming out.now first) number) }
+{
+    let place = behind(first, number)?;
+    draft.push(b"AS ")?;
+    draft.push_column(out, 0, place)
+}
+
+/// The one item of a list that has no other.
+pub fn push_unread(out: &[u8], word: &[u8], count: usize, draft: &mut Draft) -> Result<(), NoMemory>
+    ensures { OnOk result (draft.new ≡ draft.old ++ unread_text out.now word.now count) }
+{
+    if count == 0 {
+        draft.push(word)?;
+        draft.push(b"AS ")?;
+        draft.push_column(out, 0, 0)
+    } else {
+        Ok(())
+    }
+}
+
+fn push_column_item(frame: &Frame, number: usize, draft: &mut Draft) -> Result<(), NoMemory>
+    ensures { OnOk result (draft.new ≡ draft.old
+        ++ column_item frame.now.prefix.now (called_in frame.now) number) }
+{
+    let place = behind(number, 1)?;
+    push_comma(number, draft)?;
+    draft.push_column(frame.prefix, 0, place)?;
+    push_as(frame.out, frame.first, number, draft)
+}
+
+/// So many of the first columns.
+pub(crate) fn push_column_items(
+    frame: &Frame,
+    count: usize,
+    draft: &mut Draft,
+) -> Result<(), NoMemory>
+    ensures { OnOk result (draft.new ≡ draft.old
+        ++ column_items frame.now.prefix.now (called_in frame.now) count) }
+{
+    for number in 0..count {
+        push_column_item(frame, number, draft)?;
+    }
+    Ok(())
+}
+
+/// All columns, of which there are so many.
+pub fn push_columns(frame: &Frame, count: usize, draft: &mut Draft) -> Result<(), NoMemory>
+    ensures { OnOk result (draft.new ≡ draft.old
+        ++ columns_text frame.now.prefix.now (called_in frame.now) count) }
+{
+    push_unread(frame.out, b"1 ", count, draft)?;
+    push_column_items(frame, count, draft)
+}
+
+// ---- tables
+
+fn push_named_item(
+    frame: &Frame,
+    number: usize,
+    name: &Chars,
+    draft: &mut Draft,
+) -> Result<(), NoMemory>
+    ensures { OnOk result (draft.new ≡ draft.old
+        ++ item_text (called_in frame.now) number (name_text name.now)) }
+{
+    push_comma(number, draft)?;
+    draft.push_name(name.bytes())?;
+    push_as(frame.out, frame.first, number, draft)
+}
+
+fn push_named_items(frame: &Frame, names: &[Chars], draft: &mut Draft) -> Result<(), NoMemory>
+    ensures { OnOk result (draft.new ≡ draft.old ++ named_items (called_in frame.now) 0 names.now) }
+{
+    for (number, name) in names.iter().enumerate() {
+        push_named_item(frame, number, name, draft)?;
+    }
+    Ok(())
+}
+
+fn push_listed(
+    frame: &Frame,
+    name: &[u8],
+    columns: &[Chars],
+    draft: &mut Draft,
+) -> Result<(), NoMemory>
+    ensures { OnOk result (draft.new ≡ draft.old ++ listed_text (called_in frame.now) name.now columns.now) }
+{
+    push_unread(frame.out, b"1 ", columns.len(), draft)?;
+    push_named_items(frame, columns, draft)?;
+    draft.push(b"FROM ")?;
+    draft.push_name(name)
+}
+
+/// The table of an identity.
+pub fn push_table(frame: &Frame, id: u64, draft: &mut Draft) -> Result<(), NoMemory>
+    ensures { OnOk result (draft.new ≡ draft.old
+        ++ table_text (called_in frame.now) (names_of frame.now.tables.now id)) }
+{
+    match table_of(frame.tables, id) {
+        Some(table) => { push_listed(frame, table.name.bytes(), table.columns.as_slice(), draft) }
+        None => push_listed(frame, b"", &[], draft),
+    }
+}
+
+// ---- keys
+
+fn push_key(number: usize, key: &Key, draft: &mut Draft) -> Result<(), NoMemory>
+    ensures { OnOk result (draft.new ≡ draft.old ++ key_text number key.now) }
+{
+    let position = behind(key.place, 1)?;
+    push_comma(number, draft)?;
+    draft.push_number(position as u64)?;
+    draft.push(direction_text(key.descending))
+}
+
+/// Keys by their positions.
+pub fn push_keys(keys: &[Key], draft: &mut Draft) -> Result<(), NoMemory>
+    ensures { OnOk result (draft.new ≡ draft.old ++ key_texts 0 keys.now) }
+{
+    for (number, key) in keys.iter().enumerate() {
+        push_key(number, key, draft)?;
+    }
+    Ok(())
+}
+
+fn push_position(keys: usize, number: usize, draft: &mut Draft) -> Result<(), NoMemory>
+    ensures { OnOk result (draft.new ≡ draft.old ++ position_text keys number) }
+{
+    let behind_keys = behind(keys, number)?;
+    let position = behind(number, 1)?;
+    push_comma(behind_keys, draft)?;
+    draft.push_number(position as u64)
+}
+
+fn push_positions(keys: usize, count: usize, draft: &mut Draft) -> Result<(), NoMemory>
+    ensures { OnOk result (draft.new ≡ draft.old ++ position_texts keys count) }
+{
+    for number in 0..count {
+        push_position(keys, number, draft)?;
+    }
+    Ok(())
+}
+
+/// The keys of a LIMIT, and behind them all columns.
+fn push_order(keys: &[Key], count: usize, draft: &mut Draft) -> Result<(), NoMemory>
+    ensures { OnOk result (draft.new ≡ draft.old ++ order_text keys.now count) }
+{
+    let all = behind(keys.len(), count)?;
+    draft.push_unless_none(all, b"ORDER BY ")?;
+    push_keys(keys, draft)?;
+    push_positions(keys.len(), count, draft)
+}
+
+/// The keys of a LIMIT, all columns, and how many rows stay.
+pub fn push_limit(
+    keys: &[Key],
+    columns: usize,
+    count: u64,
+    draft: &mut Draft,
+) -> Result<(), NoMemory>
+    ensures { OnOk result (draft.new ≡ draft.old ++ limited_text keys.now columns count) }
+{
+    push_order(keys, columns, draft)?;
+    draft.push(b"LIMIT ")?;
+    draft.push_number(count)
+}
+
+// ---- answers
+
+fn push_called_item(number: usize, name: &Chars, draft: &mut Draft) -> Result<(), NoMemory>
+    ensures { OnOk result (draft.new ≡ draft.old ++ called_item number name.now) }
+{
+    let place = behind(number, 1)?;
+    push_comma(number, draft)?;
+    draft.push_column(b"c", 0, place)?;
+    draft.push(b"AS ")?;
+    draft.push_name(name.bytes())
+}
+
+/// The columns of an answer by their names.
+pub fn push_called(names: &[Chars], draft: &mut Draft) -> Result<(), NoMemory>
+    ensures { OnOk result (draft.new ≡ draft.old ++ called_items 0 names.now) }
+{
+    for (number, name) in names.iter().enumerate() {
+        push_called_item(number, name, draft)?;
+    }
+    Ok(())
+}
