@@ -1,5 +1,5 @@
 -- The texts of the nodes that constructors of code make, in words on plain lists of sublinks, and how they are joined piece by piece.
-use Rattle.std.proofs.Common.{◌≡◌, ◌∙◌, ℕ, ◌+◌, Bool, List, [], ◌∷◌, ◌++◌, refl, sym, ap, ap₂, append-nil}
+use Rattle.std.proofs.Common.{◌≡◌, ◌∙◌, ℕ, ◌+◌, Bool, List, [], ◌∷◌, ◌++◌, length, refl, sym, ap, ap₂, append-nil}
 use Rattle.std.specs.Prelude.{codes}
 use Rattle.perm_values.specs.declared.key.Key.{Key}
 use Rattle.perm_values.specs.declared.kind.Kind.{Kind}

@@ -9,6 +9,7 @@ use Rattle.clause_texts.specs.Chains.{is_chained}
 use Rattle.clause_texts.specs.ClauseTexts.{columns_text, over_text}
 use Rattle.clause_texts.specs.Names.{Naming, own}
 use Rattle.clause_texts.specs.declared.tables.TableNames.{TableNames}
+use Rattle.expression_texts.specs.Words.{is_any}
 use Rattle.query_texts.specs.QueryTexts.{Written, a_block, apart_unless, written}
 use Rattle.query_texts.specs.built.Parts.{block_part, over_bytes, select_part}
 use Rattle.query_texts.specs.built.Shapes.{is_block, is_chain, is_select}

@@ -1,6 +1,7 @@
 use Rattle.std.proofs.Common.{◌∙◌, ◌+◌, [], ◌∷◌, ◌++◌, ap, length, sym, refl, append_assoc}
 use Rattle.std.specs.Prelude.{codes}
 use Rattle.std.proofs.lemmas.List.{take_all}
+use Rattle.bag_algebra.specs.Kinds.{width_of}
 use Rattle.bag_algebra.specs.built.Openings.{Aggregate-is, Base-is, Distinct-is, Except-is, Intersect-is, Limit-is, Project_with-is, Prov-is, Union-is}
 use Rattle.bag_algebra.specs.declared.query.Query.TheVariants.{Aggregate, Apply, Base, Distinct, Except, Filter, Intersect, Join, Limit, Project, Prov, Single, Table, Union}
 use Rattle.clause_texts.specs.ClauseTexts.{above_text, below_text, columns_text, grouped_text, join_text, lateral_on, lateral_text, source_text}
@@ -211,9 +212,10 @@ push_part-returns-in-Prov t c =
 pub push_all-returns : goal.push_all-returns
 push_all-returns t c =
     let frame = c.args.frame.now in
-    when-ok c.push_bare.result c.push_bare.ensures (λ last.
-    laid2 c.args.draft.now _ _ (columns_text frame.prefix.now (called_in frame) _) (block_part frame.tables.now frame.prefix.now c.args.query.now)
-    (rw c.in_ok-count.ensures at c.in_ok-push_columns.ensures) last)
+    let columns = columns_text frame.prefix.now (called_in frame) in
+    when-ok c.push_bare.result c.push_bare.ensures
+    (laid2 c.args.draft.now _ _ (columns (width_of c.args.query.now)) (block_part frame.tables.now frame.prefix.now c.args.query.now)
+    (c.in_ok-push_columns.ensures ∙ ap (λ count. c.args.draft.now ++ columns count) c.in_ok-count.ensures))
 
 -- ---- FROM and WHERE
 
@@ -342,12 +344,13 @@ push_listed-returns-then-is_select t c =
     pushed ∙ ap (λ text. c.args.draft.now ++ text)
     (listed_part frame.tables.now frame.prefix.now (called_in frame) c.args.query.now (sym c.is_select.ensures ∙ c.if-is_select.true)))
 
-pub push_listed-returns-in_ok-push_columns-else-is_select : goal.push_listed-returns-in_ok-push_columns-else-is_select
-push_listed-returns-in_ok-push_columns-else-is_select t c =
+pub push_listed-returns-in_ok-push_columns : goal.push_listed-returns-in_ok-push_columns
+push_listed-returns-in_ok-push_columns t c =
     let frame = c.args.frame.now in
+    let columns = columns_text frame.prefix.now (called_in frame) in
     when-ok c.push_over.result c.push_over.ensures (λ last.
-    laid2 c.args.draft.now _ _ (columns_text frame.prefix.now (called_in frame) _) (over_bytes frame.tables.now frame.prefix.now c.args.query.now)
-    (rw c.in_ok-count-else-is_select.ensures at c.in_ok-push_columns-else-is_select.ensures) last
+    laid2 c.args.draft.now _ _ (columns (width_of c.args.query.now)) (over_bytes frame.tables.now frame.prefix.now c.args.query.now)
+    (c.in_ok-push_columns.ensures ∙ ap (λ count. c.args.draft.now ++ columns count) c.in_ok-count.ensures) last
     ∙ ap (λ text. c.args.draft.now ++ text)
     (listed_over frame.tables.now frame.prefix.now (called_in frame) c.args.query.now (sym c.is_select.ensures ∙ c.if-is_select.false)))
 
