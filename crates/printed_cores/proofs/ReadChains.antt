@@ -1,6 +1,7 @@
 -- A FROM that joins may follow, as it is read: its last columns are numbered from 1 on, and the names of its sources are apart.
-use Rattle.std.proofs.Common.{◌≡◌, ℕ, suc, ◌+◌, ◌<◌, ◌^◌, Bool, true, false, cond, ◌||◌, List, [], ◌∷◌, ◌++◌, length, map, Some, None, refl, sym, ap, subst, ◌∙◌, true≢false, append-nil, append_assoc, arith}
-use Rattle.std.proofs.lemmas.List.{length-append}
+use Rattle.std.proofs.Common.{◌≡◌, ℕ, suc, ◌+◌, ◌<◌, ◌^◌, true, false, cond, ◌||◌, List, [], ◌∷◌, ◌++◌, length, map, Some, None, refl, sym, ap, subst, ◌∙◌, true≢false, append-nil, append_assoc, arith}
+use Rattle.std.proofs.lemmas.List.{length-append, map-append}
+use Rattle.std.proofs.lemmas.List.Folds.{list_any-append}
 use Rattle.std.specs.Fmt.{decimal}
 use Rattle.std.specs.List.{list_any}
 use Rattle.std.specs.Str.Parse.{digits_value}
@@ -40,33 +41,22 @@ use Rattle.printed_cores.proofs.ReadFroms.{item-is, item_of_query, known_columns
 use Rattle.printed_cores.proofs.ReadJoins.{join-known, numbered-append, step-on, words-plain}
 use Rattle.printed_cores.proofs.ReadLaterals.{beside, step-lateral, words-kind, words-lateral}
 use Rattle.printed_expressions.specs.Scopes.{IsScope, Numbered, marks}
-use Rattle.printed_expressions.proofs.ReadScopes.{differ}
+use Rattle.printed_expressions.proofs.ReadScopes.{differ, tail-same}
 
 -- ---- names of sources
-
-tail-same : (x y : ℕ) (xs ys : List ℕ) → x ∷ xs ≡ y ∷ ys → xs ≡ ys
-tail-same x y xs ys e = cc
 
 -- that of a number isn't the first one's
 first-apart : (number : ℕ) → 0 < number → number < 2 ^ 64 → named_so (source_name number) source_prefix ≡ false
 first-apart number low small = differ (source_name number) source_prefix (λ e.
-    let none : decimal number ≡ [] = tail-same 116 116 (decimal number) [] e in
+    let none : decimal number ≡ [] = tail-same 116 (decimal number) [] e in
     let value : 0 ≡ number = ap (digits_value 10) (sym none) ∙ (decimal_is_IsNumeral number small).1 in
     omega (arith, low, value))
 
 -- nor that of another number
 others-apart : (number other : ℕ) → other < number → number < 2 ^ 64 → named_so (source_name number) (source_name other) ≡ false
 others-apart number other low small = differ (source_name number) (source_name other) (λ e.
-    let same = decimal_injective number other small (omega (arith, low, small)) (tail-same 116 116 (decimal number) (decimal other) e) in
+    let same = decimal_injective number other small (omega (arith, low, small)) (tail-same 116 (decimal number) (decimal other) e) in
     omega (arith, low, same))
-
-any-last : {X : Type 0} (f : X → Bool) (xs : List X) (x : X) → list_any f xs ≡ false → f x ≡ false → list_any f (xs ++ x ∷ []) ≡ false
-any-last f [] x h e = ap (λ b. b || false) e
-any-last f (y ∷ xs) x h e = step (f y) (list_any f xs) (list_any f (xs ++ x ∷ [])) h (λ g. any-last f xs x g e)
-  where
-    step : (a b d : Bool) → (a || b) ≡ false → (b ≡ false → d ≡ false) → (a || d) ≡ false
-    step true b d h g = absurd (true≢false h)
-    step false b d h g = g h
 
 -- ---- scopes whose last columns are numbered
 
@@ -199,10 +189,6 @@ join_all-append : (outer : List Scope) (left : FromMeant) (first more : List Joi
 join_all-append outer left [] more = refl
 join_all-append outer left (step ∷ first) more = join_all-append outer (join_item outer left step (joined_item outer left step)) first more
 
-map-append : (c : Contents) (first more : List JoinStep) → map (join_of c) (first ++ more) ≡ map (join_of c) first ++ map (join_of c) more
-map-append c [] more = refl
-map-append c (step ∷ first) more = ap (λ parts. join_of c step ∷ parts) (map-append c first more)
-
 module _ (c : Contents) (depth : ℕ) (above : List Scope) where
   -- what a tree of FROM means
   abbrev pub chain_meant : FromItem → List JoinStep → FromMeant
@@ -219,7 +205,7 @@ module _ (c : Contents) (depth : ℕ) (above : List Scope) where
   one-more-meant : (item : FromItem) (steps : List JoinStep) (step : JoinStep) → chain_meant item (steps ++ step ∷ []) ≡ step_meant (chain_meant item steps) step
   one-more-meant item steps step =
       let start = first_item [] ((from_item_of c item).means (in_from above) []) in
-      ap (join_all above start) (map-append c steps (step ∷ [])) ∙ join_all-append above start (map (join_of c) steps) (join_of c step ∷ [])
+      ap (join_all above start) (map-append (join_of c) steps (step ∷ [])) ∙ join_all-append above start (map (join_of c) steps) (join_of c step ∷ [])
 
   -- it is read as a query with these items, whose names are those of lower numbers
   pub record Joinable (own : List Kind) (items : List ScopeItem) (q : Query) (m : FromMeant) : Type 0 where
@@ -286,8 +272,9 @@ module _ (c : Contents) (depth : ℕ) (above : List Scope) where
   fresh-more left [] any names fresh number low small = absurd (true≢false (sym any))
   fresh-more left (kind ∷ right) any names fresh number low small =
       let wide : length (left ++ kind ∷ right) ≡ length left + suc (length right) = length-append left (kind ∷ right) in
-      any-last (named_so (source_name number)) names (source_name (length left + 1)) (fresh number (omega (arith, low, wide)) small)
-      (others-apart number (length left + 1) (omega (arith, low, wide)) small)
+      let first = fresh number (omega (arith, low, wide)) small in
+      let second = others-apart number (length left + 1) (omega (arith, low, wide)) small in
+      list_any-append (named_so (source_name number)) names (source_name (length left + 1) ∷ []) ∙ (λ i. first i || (second i || false))
 
   -- what such a FROM and one more source are read as; others follow where that has columns
   pub record Extended (left right : List Kind) (front : ℕ) (chain : Chain) (q : Query) : Type 0 where

@@ -36,7 +36,7 @@ no_number n more small e =
     let digits : AllDigits 10 (99 ∷ more) = subst (AllDigits 10) e (decimal_is_IsNumeral n small).0.1 in
     let low = digits.0 in absurd (omega (arith, low))
 
-tail-same : (x : ℕ) (xs ys : List ℕ) → x ∷ xs ≡ x ∷ ys → xs ≡ ys
+pub tail-same : (x : ℕ) (xs ys : List ℕ) → x ∷ xs ≡ x ∷ ys → xs ≡ ys
 tail-same x xs ys e = ap (drop 1) e
 
 -- names of different depths differ, and names of one depth as their numbers do

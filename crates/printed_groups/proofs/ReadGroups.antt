@@ -24,6 +24,7 @@ use Rattle.sql_tree.specs.declared.expression.AggWord.TheVariants as word
 use Rattle.sql_tree.specs.declared.expression.ExprTree.{ExprTree}
 use Rattle.sql_tree.specs.declared.name.ColRef.{ColRef}
 use Rattle.sql_tree.specs.declared.query.Core.{Core}
+use Rattle.sql_tree.specs.declared.query.QueryTree.{QueryTree}
 use Rattle.sql_tree.specs.declared.query.SelectItem.{SelectItem}
 use Rattle.name_meaning.specs.Cores.{core_seen, group_break, group_found, group_place, has_some, is_grouped}
 use Rattle.name_meaning.specs.Froms.{from_all, in_clause, in_from}
@@ -31,7 +32,7 @@ use Rattle.name_meaning.specs.Items.{SelectPart}
 use Rattle.name_meaning.specs.Meanings.{Around, Surroundings, broken}
 use Rattle.name_meaning.specs.Scopes.{ScopeItem, found_among, if_some, look_up, scope_of}
 use Rattle.name_meaning.specs.Sublinks.{in_argument}
-use Rattle.name_meaning.specs.Trees.{from_of, item_of, part_of}
+use Rattle.name_meaning.specs.Trees.{from_of, item_of, part_of, query_of}
 use Rattle.name_meaning.specs.declared.answer.Break.{Break}
 use Rattle.name_meaning.specs.declared.rule.Rule.TheVariants as rule
 use Rattle.name_meaning.specs.declared.scope.Found.TheVariants.{Absent as absent, Ambiguous as ambiguous, Column as found}

@@ -1,5 +1,6 @@
 -- What the form of a query says is its text.
 use Rattle.std.proofs.Common.{◌≡◌, ◌∙◌, ℕ, suc, ◌+◌, Bool, true, false, List, [], ◌∷◌, ◌++◌, map, refl, sym, ap, ap₂, append_assoc, append-nil, arith, true≢false}
+use Rattle.std.proofs.lemmas.List.{length-append, length-map, map-append}
 use Rattle.std.specs.Prelude.{codes, length, cond, Option, Some, None}
 use Rattle.null_logic.specs.declared.compare.Compare.{Compare}
 use Rattle.null_logic.specs.declared.compare.Compare.TheVariants as compare
@@ -64,18 +65,6 @@ spare_map used number (form ∷ forms) =
       | true ↦ spare_map used (number + 1) forms
       | false ↦ ap (λ texts. expr_said form ∷ texts) (spare_map used (number + 1) forms)
     ]
-
-length_map : (forms : List ExprForm) → length (map expr_said forms) ≡ length forms
-length_map [] = refl
-length_map (form ∷ forms) = ap suc (length_map forms)
-
-map_both : (forms more : List ExprForm) → map expr_said (forms ++ more) ≡ map expr_said forms ++ map expr_said more
-map_both [] more = refl
-map_both (form ∷ forms) more = ap (λ texts. expr_said form ∷ texts) (map_both forms more)
-
-length_both : (forms more : List ExprForm) → length (forms ++ more) ≡ length forms + length more
-length_both [] more = omega arith
-length_both (form ∷ forms) more = ap suc (length_both forms more) ∙ omega arith
 
 module _ (prefix : List ℕ) where
   columns_list : (out : Naming) (count : ℕ) → list_said (listed out one (columns prefix count)) ≡ columns_text prefix out count
@@ -219,11 +208,11 @@ both_listed : (out : Naming) (nothing : ExprForm) (forms more : List ExprForm) (
     → list_said (listed out nothing (forms ++ more))
     ≡ unread_text out.prefix (expr_said nothing) (n + m) ++ (items_said out 0 (map expr_said forms) ++ items_said out n (map expr_said more))
 both_listed out nothing forms more n m is_n is_m =
-    let all : length (forms ++ more) ≡ n + m = length_both forms more ∙ ap₂ (λ a b. a + b) is_n is_m in
-    let behind : 0 + length (map expr_said forms) ≡ n = omega (arith, length_map forms, is_n) in
+    let all : length (forms ++ more) ≡ n + m = length-append forms more ∙ ap₂ (λ a b. a + b) is_n is_m in
+    let behind : 0 + length (map expr_said forms) ≡ n = omega (arith, length-map forms expr_said, is_n) in
     listed_said out nothing (forms ++ more)
     ∙ ap₂ (λ k t. unread_text out.prefix (expr_said nothing) k ++ t) all
-    (ap (items_said out 0) (map_both forms more) ∙ items_append out 0 (map expr_said forms) (map expr_said more)
+    (ap (items_said out 0) (map-append expr_said forms more) ∙ items_append out 0 (map expr_said forms) (map expr_said more)
     ∙ ap (λ k. items_said out 0 (map expr_said forms) ++ items_said out k (map expr_said more)) behind)
 
 below_said : (prefix : List ℕ) (groups : List ℕ) (aggregates : List Aggr) (chain : Chain) (test : ConditionForm)
