@@ -17,7 +17,7 @@ import scripts
 TOP = pathlib.Path(__file__).resolve().parent.parent
 TOLD = (
     "perm: not proved yet: this answer comes, in a minute or two, from the sources as they stand, unproved; "
-    "./build proves them in about half an hour, and then the proved program answers"
+    "./build proves them in an hour or more, and then the proved program answers"
 )
 SECONDS = 600
 ENDED = re.compile(rb"^run=ended status=(\d+) .*proved=no\n\Z", re.M)
