@@ -36,8 +36,9 @@ ANSWERED, FAULT = 0, 5
 TOO_DEEP = re.compile(r"error E(06|27) ")
 NOTHING = "\\N"
 LINE = re.compile(r'"((?:[^"]|"")*)"|([^,]*)')
-# By what SQLite's own rules may give other rows, and nothing says so.
-SILENT = {"LIMIT meets NULL first": re.compile(r"\blimit\b", re.I)}
+SUM = re.compile(r"\bSUM ?\(")
+# A line of a printed text that sorts by places; where NULL stands there is the program's rule, and PostgreSQL's. SQLite's is the other one.
+SORTED = re.compile(r"^( *ORDER BY )(\d+(?: DESC)?(?:, \d+(?: DESC)?)*)(?=;?$)", re.M)
 
 
 class Unsaid(Exception):
@@ -56,6 +57,11 @@ class Case:
 
     def rows(self):
         return [parsed(line) for line in self.lines[1:-1]]
+
+    def has(self, given):
+        """Whether an engine's rows are the answer's, each as often."""
+        rows = self.rows()
+        return Counter(rows) == Counter(tuple(map(like, row, models(rows) or [None] * len(row))) for row in given)
 
 
 @dataclass
@@ -95,8 +101,26 @@ def models(rows):
     return [next((value for value in column if value is not None), None) for column in zip(*rows)]
 
 
+def nulls_told(text):
+    """The text with the place of NULL said in each ORDER BY, as its dialect has it."""
+    return SORTED.sub(lambda found: found[1] + ", ".join(
+        f"{key} NULLS {'FIRST' if key.endswith('DESC') else 'LAST'}" for key in found[2].split(", ")), text)
+
+
+def sums_whole(text):
+    """The text with each SUM made an integer of 64 bits again, so that what divides it leaves no fraction."""
+    for found in reversed(list(SUM.finditer(text))):
+        depth, end = 1, found.end()
+        while depth > 0:
+            depth += {"(": 1, ")": -1}.get(text[end], 0)
+            end += 1
+        text = f"{text[:found.start()]}CAST({text[found.start():end]} AS BIGINT){text[end:]}"
+    return text
+
+
 class Sqlite:
     name = "SQLite"
+    silent = {"LIMIT meets NULL first": nulls_told}
 
     def load(self, tables):
         self.held = sqlite3.connect(":memory:")
@@ -118,6 +142,7 @@ class Server(Postgres):
     """PostgreSQL with the tables of one random database at a time."""
 
     MARK = "---- engines"
+    silent = {"a SUM's quotient has a fraction": sums_whole}
 
     def load(self, tables):
         self.loading = "DROP SCHEMA public CASCADE;\nCREATE SCHEMA public;\n" + "".join(
@@ -202,14 +227,16 @@ def compare_engine(engine, case, tables, given, totals):
         totals.told[f"{engine.name}: {what}"] += 1
     elif case.status == FAULT:
         totals.told[f"{engine.name}: answers where the program meets a fault"] += 1
-    elif (ours := Counter(case.rows())) == Counter(tuple(map(like, row, models(case.rows()) or [None] * len(row))) for row in given):
+    elif case.has(given):
         totals.told[f"{engine.name}: same"] += 1
     else:
-        silent = [why for why, pattern in SILENT.items() if engine.name == "SQLite" and pattern.search(case.printed)]
-        if silent and sum(ours.values()) == len(given):
-            totals.told[f"{engine.name}: other rows, since {silent[0]}"] += 1
-        else:
-            totals.differs(engine.name, case, tables, [repr(row) for row in given])
+        # What a rule of the engine's own explains: the text that says otherwise has the program's rows there.
+        for why, said in engine.silent.items():
+            again = engine.all_rows([said(case.printed)])[0]
+            if not isinstance(again, Unsaid) and case.has(again):
+                totals.told[f"{engine.name}: other rows, since {why}"] += 1
+                return
+        totals.differs(engine.name, case, tables, [repr(row) for row in given])
 
 
 def compare_database(made, engines, wanted, totals):
@@ -258,8 +285,8 @@ def main():
             number += 1
     for what, times in sorted(totals.told.items()):
         print(f"{what}: {times}")
-    if totals.differences:
-        engine, script, expected, given = min(totals.differences, key=lambda difference: len(difference[1]))
+    for engine in sorted({difference[0] for difference in totals.differences}):
+        _, script, expected, given = min((it for it in totals.differences if it[0] == engine), key=lambda difference: len(difference[1]))
         print(f"the smallest script that differs, on {engine}:", script, "expected:", *expected, "given:", *given, sep="\n")
     print(f"{totals.done} queries, {len(totals.differences)} differences")
     sys.exit(1 if totals.differences else 0)

@@ -16,8 +16,8 @@ import scripts
 
 TOP = pathlib.Path(__file__).resolve().parent.parent
 TOLD = (
-    "perm: not proved yet: this answer comes, in a minute or two, from the sources as they stand, unproved; "
-    "./build proves them in about half an hour, and then the proved program answers"
+    "perm: not proved yet: this answer comes, in two or three minutes, from the sources as they stand, unproved; "
+    "./build proves them in an hour or more, and then the proved program answers"
 )
 SECONDS = 600
 ENDED = re.compile(rb"^run=ended status=(\d+) .*proved=no\n\Z", re.M)
