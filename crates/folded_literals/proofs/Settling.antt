@@ -1,9 +1,10 @@
 -- What folding leaves is settled.
-use Rattle.std.proofs.Common.{◌≡◌, Bool, true, false, ◌&&◌, not, List, [], ◌∷◌, ◌++◌, None, refl, sym, ap, ◌∙◌, true≢false}
+use Rattle.std.proofs.Common.{◌≡◌, Bool, true, false, ◌&&◌, not, List, [], ◌∷◌, ◌++◌, Option, None, refl, sym, ap, ◌∙◌, true≢false}
 use Rattle.std.proofs.lemmas.List.Folds.{list_all-append}
 use Rattle.std.specs.List.{list_all}
 use Rattle.std.specs.Prelude.{is_some}
 use Rattle.null_logic.specs.declared.run_fault.RunFault.{RunFault}
+use Rattle.perm_values.specs.declared.kind.Kind.{Kind}
 use Rattle.bag_algebra.proofs.Truths.{both-true}
 use Rattle.bag_algebra.specs.Expressions.{value}
 use Rattle.bag_algebra.specs.Outcome.{Outcome, Good, Bad, is_good}
@@ -34,7 +35,7 @@ meets-fault e fault h =
     ap (λ b. is_some (constant_kind e) && b) (no_good (value e [] [] []) fault h) ∙ and_false (is_some (constant_kind e))
 
 pub no_constant : (e : Expr) → constant_kind e ≡ None → is_foldable e ≡ false
-no_constant e h = ap (λ k. is_some k && is_good (value e [] [] [])) h
+no_constant e h = ap (λ (k : Option Kind). is_some k && is_good (value e [] [] [])) h
 
 -- an expression that isn't, over settled parts
 pub settled-itself : (e : Expr) (parts : Bool) → SettledBy e parts → parts ≡ true → is_foldable e ≡ false → is_settled e ≡ true

@@ -1,4 +1,4 @@
-use Rattle.std.proofs.Common.{◌≡◌, Bool, true, ◌&&◌, subst}
+use Rattle.std.proofs.Common.{◌≡◌, true, ◌&&◌, subst}
 use Rattle.bag_algebra.proofs.Truths.{both-true}
 use Rattle.bag_algebra.specs.declared.expr.Arm.{Arm}
 use Rattle.bag_algebra.specs.declared.expr.ChainStep.{ChainStep}
