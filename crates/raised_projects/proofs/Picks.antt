@@ -31,7 +31,7 @@ use Rattle.raised_projects.specs.Sides.{IsSide, of_input, of_itself}
 use Rattle.raised_projects.specs.declared.sides.Side.{Side}
 
 -- the rows of the query are those of the other at the places
-pub record Picks (query under : Query) (places : List ℕ) : Type 0 where
+pub record Picks (query under : Query) (places : List ℕ) : Type 1 where
   pub plain : is_plain query ≡ true → is_plain under ≡ true
   pub tables : (P : ℕ → List Kind → Type 0) → EachTable P query → EachTable P under
   pub formed : (outer : List (List Kind)) → WellFormed outer query → WellFormed outer under

@@ -13,7 +13,7 @@ use Rattle.raised_projects.proofs.joins.lowered.Goals as goal
 pub returns : goal.returns
 returns c q s =
     let plan = c.requires in
-    let sides = c.joined.ensures c.args.plan.kind plan.left plan.right plan.condition plan.is in
+    let sides = c.joined-left.ensures c.args.plan.kind plan.left plan.right plan.condition plan.is in
     let lefts = picks-side plan.left plan.lefts c.args.plan.left c.under-left.result plan.of_left plan.left_input
     (λ e. c.under-left.ensures.itself e ∙ (λ i. (sides i).0))
     (λ e under items is. c.under-left.ensures.below e under items ((λ i. (sides i).0) ∙ is)) in
