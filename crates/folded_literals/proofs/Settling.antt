@@ -1,5 +1,6 @@
 -- What folding leaves is settled.
 use Rattle.std.proofs.Common.{◌≡◌, Bool, true, false, ◌&&◌, not, List, [], ◌∷◌, ◌++◌, Option, None, refl, sym, ap, ◌∙◌, true≢false}
+use Rattle.std.proofs.Math.Bool.{and-false}
 use Rattle.std.proofs.lemmas.List.Folds.{list_all-append}
 use Rattle.std.specs.List.{list_all}
 use Rattle.std.specs.Prelude.{is_some}
@@ -26,13 +27,9 @@ no_good : {X : Type 0} (o : Outcome X) (fault : RunFault) → meets o fault ≡ 
 no_good (Good x) fault h = absurd (true≢false (sym h))
 no_good (Bad faults) fault h = refl
 
-and_false : (b : Bool) → (b && false) ≡ false
-and_false true = refl
-and_false false = refl
-
 pub meets-fault : (e : Expr) (fault : RunFault) → meets (value e [] [] []) fault ≡ true → is_foldable e ≡ false
 meets-fault e fault h =
-    ap (λ b. is_some (constant_kind e) && b) (no_good (value e [] [] []) fault h) ∙ and_false (is_some (constant_kind e))
+    ap (λ b. is_some (constant_kind e) && b) (no_good (value e [] [] []) fault h) ∙ and-false (is_some (constant_kind e))
 
 pub no_constant : (e : Expr) → constant_kind e ≡ None → is_foldable e ≡ false
 no_constant e h = ap (λ (k : Option Kind). is_some k && is_good (value e [] [] [])) h

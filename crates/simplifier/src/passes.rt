@@ -43,9 +43,9 @@ fn folded_again(alloc: Global, query: Result<Query, NoMemory>) -> Result<Query, 
     ensures stands { (q : Query) → IfOk query (λ b. Stands q b) → IfOk result (λ p. Stands q p) }
     ensures simple { IfOk result (λ p. IsTrue (is_simple p)) }
 {
-    let query = query?;
-    let made = folded_query(alloc, &query);
-    drop(query);
+    let given = query?;
+    let made = folded_query(alloc, &given);
+    drop(given);
     made
 }
 
