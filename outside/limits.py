@@ -59,6 +59,7 @@ CHAINS = [
     ("cross join", chain(TABLE, "SELECT 1 FROM r x", " CROSS JOIN r y%d"), 4),
     ("joins with one name", chain(TABLE, "SELECT 1 FROM r", " CROSS JOIN r"), 4),
     ("comma items", chain(TABLE, "SELECT 1 FROM r x", ",r y%d"), 4),
+    ("comma items of PROVENANCE", chain(TABLE, "SELECT PROVENANCE 1 FROM r x", ",r y%d"), 4),
     *[(f"{kind.lower()} lateral", chain(TABLE, "SELECT 1 FROM r x", f" {kind} JOIN LATERAL(SELECT 1)y%d{back}"), 4)
       for kind, back in (("CROSS", ""), ("LEFT", " ON TRUE"))],
     ("comma subqueries", chain("", "SELECT 1 FROM (SELECT 1) x", ",(SELECT 1) y%d"), 4),

@@ -1,5 +1,5 @@
 -- Meaning the same goes both ways, and on.
-use Rattle.std.proofs.Common.{◌≡◌, ℕ, List, [], subst, sym, ◌∙◌}
+use Rattle.std.proofs.Common.{◌≡◌, ℕ, List, [], ◌∷◌, ap, subst, sym, ◌∙◌}
 use Rattle.sql_lexer.proofs.OneAnswer.{one_list}
 use Rattle.sql_grammar.specs.Grammar.{sql}
 use Rattle.sql_grammar.specs.Rules.{symbol, Spelled}
@@ -9,6 +9,10 @@ use Rattle.sql_grammar.proofs.Decided.{goes_on, decided}
 use Rattle.sql_grammar.proofs.Exact.{one_value}
 use Rattle.sql_parser.specs.Texts.{IsTextOf}
 use Rattle.sql_tree.specs.declared.query.QueryTree.{QueryTree}
+use Rattle.sql_tree.specs.declared.statement.Script.{Script}
+use Rattle.sql_tree.specs.declared.statement.Statement.{Statement}
+use Rattle.sql_tree.specs.declared.statement.StatementBody.{StatementBody}
+use Rattle.sql_tree.specs.declared.statement.StatementBody.TheVariants.{Select}
 use Rattle.bag_algebra.specs.Bags.{Bag}
 use Rattle.bag_algebra.specs.Meaning.{meaning}
 use Rattle.bag_algebra.specs.Outcome.{Outcome, Good, Bad}
@@ -16,7 +20,7 @@ use Rattle.bag_algebra.specs.Rewriting.{SameRows}
 use Rattle.bag_algebra.specs.declared.query.Answer.{Answer}
 use Rattle.bag_algebra.proofs.BagLaws.{same_bag-sym, same_bag-trans}
 use Rattle.perm_catalog.specs.Contents.{Contents}
-use Rattle.answer_texts.specs.Explains.{MeansTheSame}
+use Rattle.answer_texts.specs.Explains.{MeansTheSame, one_select}
 
 same_rows-sym : (a b : Outcome Bag) → SameRows a b → SameRows b a
 same_rows-sym (Good us) (Good vs) s = same_bag-sym us vs s
@@ -48,8 +52,19 @@ same-trans c answer other third s t = record {
 }
 
 -- a text is a text of one query
-pub one_query : (text : List ℕ) (tree other : QueryTree) → IsTextOf n.Query text tree → IsTextOf n.Query text other → tree ≡ other
-one_query text tree other a b =
+query_in : StatementBody → QueryTree → QueryTree
+query_in (Select tree) other = tree
+query_in _ other = other
+
+first_query : List Statement → QueryTree → QueryTree
+first_query [] other = other
+first_query (statement ∷ more) other = query_in statement.body other
+
+pub one_query : (text : List ℕ) (start begin : ℕ) (tree other : QueryTree) → IsTextOf n.ScriptOf text (one_select start tree)
+    → IsTextOf n.ScriptOf text (one_select begin other) → tree ≡ other
+one_query text start begin tree other a b =
     let same : b.tokens ≡ a.tokens = one_list text b.tokens a.tokens b.lexes a.lexes in
-    one_value sql sql_tables goes_on decided n.Query a.tokens tree other a.spelled
-    (subst (λ tokens. Spelled sql (symbol n.Query) tokens other) same b.spelled)
+    let scripts : one_select start tree ≡ one_select begin other =
+    one_value sql sql_tables goes_on decided n.ScriptOf a.tokens (one_select start tree) (one_select begin other) a.spelled
+    (subst (λ tokens. Spelled sql (symbol n.ScriptOf) tokens (one_select begin other)) same b.spelled) in
+    ap (λ (script : Script). first_query script.statements tree) scripts

@@ -1,5 +1,5 @@
 -- When a text says what an answer means.
-use Rattle.std.specs.Prelude.{◌≡◌, ℕ, Bool, true, not, ◌||◌, List, [], Some}
+use Rattle.std.specs.Prelude.{◌≡◌, ℕ, Bool, true, not, ◌||◌, List, [], ◌∷◌, ◌++◌, Some, codes}
 use Rattle.std.specs.List.{list_all}
 use Rattle.sql_lexer.specs.declared.token.Token.{Token}
 use Rattle.sql_grammar.specs.Building.{is}
@@ -7,6 +7,7 @@ use Rattle.sql_grammar.specs.Symbols as n
 use Rattle.sql_grammar.specs.declared.sort.Sort.TheVariants as s
 use Rattle.sql_parser.specs.Texts.{IsTextOf}
 use Rattle.sql_tree.specs.declared.query.QueryTree.{QueryTree}
+use Rattle.sql_tree.specs.declared.statement.Script.{Script}
 use Rattle.sql_tree.specs.declared.statement.StatementBody.TheVariants.{Select}
 use Rattle.bag_algebra.specs.Fits.{bag_fits}
 use Rattle.bag_algebra.specs.Meaning.{Database, meaning}
@@ -37,10 +38,18 @@ is_plain_word token = not (is token s.Provenance || is token s.BaseRelation)
 abbrev pub read_as : Contents → QueryTree → Answer
 read_as c tree = answer_of (query_meant c tree)
 
--- the text is one query without these words, which breaks no rule of names and kinds and is read as what means the same
+-- a script whose one statement is the query, with the offset of its first token
+abbrev pub one_select : ℕ → QueryTree → Script
+one_select at tree = record { statements = record { at = at; body = Select tree } ∷ [] }
+
+-- the text is one query without these words, ended by `;` and a newline, which breaks no rule of names and kinds and is read
+-- as what means the same
 pub record Explains (c : Contents) (answer : Answer) (text : List ℕ) : Type 0 where
+  pub start : ℕ
   pub tree : QueryTree
-  pub spelled : IsTextOf n.Query text tree
+  pub spelled : IsTextOf n.ScriptOf text (one_select start tree)
   pub plain : list_all is_plain_word spelled.tokens ≡ true
+  pub front : List ℕ
+  pub ended : text ≡ front ++ codes ";\n"
   pub whole : name_breaks c (Select tree) ≡ []
   pub means : MeansTheSame c answer (read_as c tree)

@@ -28,6 +28,7 @@ pub mod OrderOfSets
 pub mod Padding
 pub mod PartForms
 pub mod QueryKinds
+pub mod RelationNumbers
 pub mod RowKinds
 pub mod SameTests
 pub mod SetMembers

@@ -5,11 +5,11 @@ pub mod Fitting
 pub mod HasSublinks
 pub mod HeldRows
 pub mod ItemKinds
-pub mod LabelNames
 pub mod Longer
 pub mod MovedColumns
 pub mod NullItems
 pub mod NullRow
+pub mod RelationNumbers
 pub mod SameColumns
 pub mod SameMeaning
 pub mod SublinkValues

@@ -1,11 +1,11 @@
 //! The names of the columns of places.
-ghost use Rattle.std.specs.Prelude.{◌≡◌, ◌++◌, ◌<◌, ◌≤◌, ◌^◌, IfOk, OnOk, map, length, nat_eq, count_by, flat_map};
-ghost use Rattle.std.specs.Cmp.Lexicographic.{pointwise};
-ghost use Rattle.contribution.specs.LabelNames.{label_is_of};
+ghost use Rattle.std.specs.Prelude.{◌≡◌, ◌++◌, ◌+◌, ℕ, List as ListOf, IfOk, OnOk, map};
 ghost use Rattle.bag_algebra.specs.PlaceNames.{place_name, label_names, place_names, relations_of};
+ghost use Rattle.contribution.specs.RelationNumbers.{HasPut, Numbers, earlier_places, number_in};
 
 use crate::places::PlaceList;
 use bag_algebra::{Label, Place};
+use indexmap::IndexMap;
 use perm_values::{Chars, Copyable, List, NoMemory};
 use std::alloc::Global;
 
@@ -16,51 +16,80 @@ pub fn prov_names(alloc: Global, places: &PlaceList) -> Result<List<Chars>, NoMe
     ensures { IfOk result (λ names. names ≡ place_names places.now.places) }
 {
     let mut names = List::new(alloc);
+    let mut numbers = IndexMap::new(alloc);
     let places = places.places.as_slice();
-    for at in 0..places.len() {
-        add_names(alloc, &mut names, &places[..at], &places[at].label)?;
+    for place in places {
+        let number = number(&numbers, &place.label);
+        add_names(alloc, &mut names, number, &place.label)?;
+        put_number(alloc, &mut numbers, place, number + 1)?;
     }
     Ok(names)
 }
 
-/// The names of the columns of a place with that label, behind the earlier places.
+/// How many places of the label's relation stand before.
+fn number(numbers: &IndexMap<Chars, usize>, label: &Label) -> usize
+    ensures { (earlier : ListOf (ListOf ℕ)) → Numbers numbers.now.entries earlier
+        → result ≡ earlier_places earlier label.now }
+{
+    match label {
+        Label::Relation { name, .. } => number_of(numbers, name),
+        Label::External { .. } => 0,
+    }
+}
+
+fn number_of(numbers: &IndexMap<Chars, usize>, name: &Chars) -> usize
+    ensures { result ≡ number_in numbers.now.entries name.now }
+{
+    match numbers.get(name) {
+        Some(number) => *number,
+        None => 0,
+    }
+}
+
+/// Notes that with this place there are so many of its relation.
+fn put_number(
+    alloc: Global,
+    numbers: &mut IndexMap<Chars, usize>,
+    place: &Place,
+    number: usize,
+) -> Result<(), NoMemory>
+    ensures { (earlier : ListOf (ListOf ℕ)) → Numbers numbers.old.entries earlier
+        → number ≡ earlier_places earlier place.now.label + 1
+        → OnOk result (Numbers numbers.new.entries (earlier ++ relations_of place.now)) }
+{
+    match &place.label {
+        Label::Relation { name, .. } => set_number(alloc, numbers, name, number),
+        Label::External { .. } => Ok(()),
+    }
+}
+
+fn set_number(
+    alloc: Global,
+    numbers: &mut IndexMap<Chars, usize>,
+    name: &Chars,
+    number: usize,
+) -> Result<(), NoMemory>
+    ensures { OnOk result (HasPut numbers.old.entries numbers.new.entries name.now number) }
+{
+    numbers.insert(name.copy(alloc)?, number)?;
+    Ok(())
+}
+
+/// Adds the names of the columns of a place with that label, before which so many places of its relation stand.
 fn add_names(
     alloc: Global,
     names: &mut List<Chars>,
-    earlier: &[Place],
+    number: usize,
     label: &Label,
 ) -> Result<(), NoMemory>
-    ensures { OnOk result (names.new ≡
-        names.old ++ label_names (flat_map relations_of earlier.now) label.now) }
+    ensures { (earlier : ListOf (ListOf ℕ)) → number ≡ earlier_places earlier label.now
+        → OnOk result (names.new ≡ names.old ++ label_names earlier label.now) }
 {
     match label {
         Label::Relation { name, columns } => {
-            let number = occurrences(earlier, name);
             add_relation_names(alloc, names, name, number, columns.as_slice())
         }
         Label::External { columns } => names.append(columns.copy(alloc)?),
-    }
-}
-
-/// How many of the places are of the relation.
-fn occurrences(places: &[Place], relation: &Chars) -> usize
-    ensures { result ≡ count_by (pointwise nat_eq relation.now) (flat_map relations_of places.now) }
-{
-    let mut count: usize = 0;
-    for place in places {
-        if is_of(&place.label, relation) {
-            count += 1;
-        }
-    }
-    count
-}
-
-fn is_of(label: &Label, relation: &Chars) -> bool
-    ensures { result ≡ label_is_of label.now relation.now }
-{
-    match label {
-        Label::Relation { name, .. } => relation == name,
-        Label::External { .. } => false,
     }
 }
 

@@ -70,7 +70,7 @@ space_ends_word = refl
 
 -- ---- a token
 
-abbrev span_of : ℕ → TokenKind → List ℕ → ℤ → Span
+abbrev pub span_of : ℕ → TokenKind → List ℕ → ℤ → Span
 span_of at kind spelled number = record { start = at; end = at + length (shown_by kind spelled number) }
 
 abbrev token_by : TokenKind → ℕ → ℕ → List ℕ → ℤ → Token
@@ -85,13 +85,13 @@ piece_by at start end Number spelled number rest s = piece_again at (token_by Nu
 piece_by at start end Text spelled number rest s = piece_again at (token_by Text start end spelled number) rest s
 piece_by at start end Symbol spelled number rest s = piece_again at (token_by Symbol start end spelled number) rest s
 
-piece_shown : (at : ℕ) (t : Token) (rest : List ℕ) → IsSpellable t
+pub piece_shown : (at : ℕ) (t : Token) (rest : List ℕ) → IsSpellable t
     → Piece at (shown t) (32 ∷ rest) (at_span (span_of at t.kind t.spelled t.number) t ∷ [])
 piece_shown at t rest s = piece_by at t.start t.end t.kind t.spelled t.number rest s
 
 -- ---- all tokens
 
-shifted : (places : Places) (i : ℕ) (tokens : List Token) → standing places (suc i) tokens ≡ standing (λ k. places (suc k)) i tokens
+pub shifted : (places : Places) (i : ℕ) (tokens : List Token) → standing places (suc i) tokens ≡ standing (λ k. places (suc k)) i tokens
 shifted places i [] = refl
 shifted places i (t ∷ tokens) = ap (λ ts. at_span (places (suc i)) t ∷ ts) (shifted places (suc i) tokens)
 
@@ -130,7 +130,7 @@ plain_utf8 : (kind : TokenKind) (spelled : List ℕ) (number : ℤ) → CanSpell
 plain_utf8 kind spelled number s utf8 =
     subst IsUtf8 (append-nil (bytes_of kind spelled number ++ 32 ∷ [])) (script_again (token_by kind 0 0 spelled number ∷ []) (s, tt) (utf8, tt)).utf8
 
-one_shown_utf8 : (kind : TokenKind) (spelled : List ℕ) (number : ℤ) → CanSpell kind spelled number → IsUtf8 spelled
+pub one_shown_utf8 : (kind : TokenKind) (spelled : List ℕ) (number : ℤ) → CanSpell kind spelled number → IsUtf8 spelled
     → IsUtf8 (shown_by kind spelled number ++ 32 ∷ [])
 one_shown_utf8 Word spelled number s utf8 =
     IsUtf8-append (str_to_ascii_uppercase spelled) (32 ∷ []) (upper_utf8 spelled s.0) (one_utf8 32 (omega arith))
@@ -144,7 +144,7 @@ shown_utf8 [] all = IsUtf8-nil
 shown_utf8 (t ∷ tokens) all =
     IsUtf8-append (shown t ++ 32 ∷ []) (shown_tokens tokens) (one_shown_utf8 t.kind t.spelled t.number all.0.0 all.0.1) (shown_utf8 tokens all.1)
 
-all_spellable : (tokens : List Token) → AllByRecursion CanStand tokens → AllByRecursion IsSpellable tokens
+pub all_spellable : (tokens : List Token) → AllByRecursion CanStand tokens → AllByRecursion IsSpellable tokens
 all_spellable [] all = tt
 all_spellable (t ∷ tokens) all = (all.0.0, all_spellable tokens all.1)
 

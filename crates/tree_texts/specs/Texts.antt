@@ -1,7 +1,8 @@
 -- The text of a form: words in capital letters, names in quotes, and a blank behind each token.
-use Rattle.std.specs.Prelude.{ℕ, ℤ, zero, suc, ◌+◌, List, [], ◌∷◌, ◌++◌, length, refl}
-use Rattle.std.specs.List.{flat_map}
+use Rattle.std.specs.Prelude.{◌≡◌, ℕ, ℤ, zero, suc, ◌+◌, true, List, [], ◌∷◌, ◌++◌, length, refl}
+use Rattle.std.specs.List.{flat_map, list_all}
 use Rattle.std.specs.Str.{str_to_ascii_uppercase}
+use Rattle.sql_lexer.specs.Bytes.{is_blank}
 use Rattle.sql_lexer.specs.Printing.{bytes_of}
 use Rattle.sql_lexer.specs.declared.token.Token.{Token}
 use Rattle.sql_lexer.specs.declared.token.TokenKind.{TokenKind}
@@ -27,6 +28,17 @@ shown token = shown_by token.kind token.spelled token.number
 
 abbrev pub shown_tokens : List Token → List ℕ
 shown_tokens tokens = flat_map (λ token. shown token ++ 32 ∷ []) tokens
+
+-- what may stand behind a token: blanks, one at least
+abbrev pub IsGap : List ℕ → Type 0
+IsGap [] = ⊥
+IsGap (b ∷ more) = (is_blank b ≡ true) × (list_all is_blank more ≡ true)
+
+-- the text of tokens with any blanks behind each: lines may be broken and set further in
+abbrev pub IsLaid : List Token → List ℕ → Type 0
+IsLaid [] text = text ≡ []
+IsLaid (token ∷ tokens) text =
+    (gap : List ℕ) × (more : List ℕ) × IsGap gap × (text ≡ shown token ++ (gap ++ more)) × IsLaid tokens more
 
 -- where they stand, if the first stands at a place
 abbrev pub places_from : ℕ → List Token → Places
