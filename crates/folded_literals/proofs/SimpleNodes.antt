@@ -1,7 +1,5 @@
 -- A filter on TRUE is its input, and nodes over folded expressions and simple queries are simple.
-use Rattle.std.proofs.Common.{◌≡◌, ℕ, Bool, true, false, cond, ◌&&◌, not, List, [], ◌∷◌, ◌++◌, refl, sym, ap, ◌∙◌, subst, true≢false}
-use Rattle.perm_values.specs.declared.kind.Kind.{Kind}
-use Rattle.perm_values.specs.declared.value.Value.{Value}
+use Rattle.std.proofs.Common.{◌≡◌, ℕ, true, false, cond, ◌&&◌, not, List, [], ◌∷◌, ◌++◌, refl, sym, ap, ◌∙◌, subst, true≢false}
 use Rattle.bag_algebra.proofs.Truths.{both-true, left-true, right-true}
 use Rattle.bag_algebra.specs.Rewriting.{is_plain, Stands}
 use Rattle.bag_algebra.specs.built.Patterns.{OpOf, ChainOf, CaseOf, IsNullOf, IsTruthOf, SameOf}
@@ -20,7 +18,6 @@ use Rattle.query_laws.specs.SameExpressions.{SameExpr}
 use Rattle.query_laws.specs.Standing.{SubsStand}
 use Rattle.rewrite_base.proofs.Itself.{stands-onward}
 use Rattle.simpler_laws.proofs.TestedQueries.{stands-filtered}
-use Rattle.simpler_laws.specs.Conjuncts.{is_always}
 use Rattle.simpler_laws.specs.Tested.{tested}
 use Rattle.folded_literals.proofs.Settling.{all-more}
 use Rattle.folded_literals.specs.Settled.{is_settled}
@@ -46,22 +43,20 @@ no_subs : (subs : List Sublink) → without_subs subs ≡ true → subs ≡ []
 no_subs [] h = refl
 no_subs (sub ∷ subs) h = absurd (true≢false (sym h))
 
-module _ (e : Expr) (subs slice : List Sublink) (is : slice ≡ subs) where
+module _ (e : Expr) (subs : List Sublink) where
   pub kept-all : (q b : Query) (condition : Expr) (originals : List Sublink) → Stands q b → SameExpr condition e → SubsStand originals subs →
-      (is_true e && without_subs slice) ≡ true → Stands (Filter q condition originals) b
+      (is_true e && without_subs subs) ≡ true → Stands (Filter q condition originals) b
   kept-all q b condition originals s same t h =
-      let none : subs ≡ [] = sym is ∙ no_subs slice (right-true (is_true e) (without_subs slice) h) in
+      let none : subs ≡ [] = no_subs subs (right-true (is_true e) (without_subs subs) h) in
       stands-onward (Filter q condition originals) (Filter b e []) b
       (stands-Filter q b s condition e same originals [] (subst (SubsStand originals) none t))
-      (stands-true e (left-true (is_true e) (without_subs slice) h) b s.plain)
+      (stands-true e (left-true (is_true e) (without_subs subs) h) b s.plain)
 
   -- ---- simple nodes
 
-  pub filter-simple : (b : Query) → is_simple b ≡ true → is_settled e ≡ true → all_simple subs ≡ true → (is_true e && without_subs slice) ≡ false →
+  pub filter-simple : (b : Query) → is_simple b ≡ true → is_settled e ≡ true → all_simple subs ≡ true → (is_true e && without_subs subs) ≡ false →
       is_simple (Filter b e subs) ≡ true
-  filter-simple b h s k f =
-      let other : (is_true e && without_subs subs) ≡ false = ap (λ ss. is_true e && without_subs ss) (sym is) ∙ f in
-      simple-Filter b e subs ∙ (λ i. (h i && k i) && (s i && not (other i)))
+  filter-simple b h s k other = simple-Filter b e subs ∙ (λ i. (h i && k i) && (s i && not (other i)))
 
 pub project-simple : (b : Query) (items : List Item) (subs : List Sublink) → is_simple b ≡ true → items_pass is_settled items ≡ true → all_simple subs ≡ true →
     is_simple (Project b items subs) ≡ true

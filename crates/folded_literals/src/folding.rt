@@ -131,13 +131,13 @@ fn literal(alloc: Global, expr: &Expr) -> Result<Option<Expr>, NoMemory>
     ensures settled { IfOk result (λ found. IfSome found (λ made. is_settled made ≡ true)) }
     ensures none { IfOk result (λ found. IfNone found (is_foldable expr.now ≡ false)) }
 {
-    let Some(kind) = constant_kind(expr) else {
-        return Ok(None);
-    };
-    match value(alloc, expr) {
-        Ok(value) => Ok(Some(Expr::Lit { value, kind })),
-        Err(ExecError::Fault(_)) => Ok(None),
-        Err(ExecError::NoMemory) => Err(NoMemory),
+    match constant_kind(expr) {
+        Some(kind) => match value(alloc, expr) {
+            Ok(value) => Ok(Some(Expr::Lit { value, kind })),
+            Err(ExecError::Fault(_)) => Ok(None),
+            Err(ExecError::NoMemory) => Err(NoMemory),
+        },
+        None => Ok(None),
     }
 }
 

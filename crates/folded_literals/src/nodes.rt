@@ -35,7 +35,7 @@ pub fn filter_folded(
         IfOk result (λ p. is_simple p ≡ true) }
 {
     let (input, condition, subs) = three(input, folded(alloc, condition), subs)?;
-    if keeps_all(&condition, subs.as_slice()) {
+    if keeps_all(&condition, &subs) {
         drop(condition);
         drop(subs);
         return Ok(input);
@@ -44,7 +44,7 @@ pub fn filter_folded(
 }
 
 /// Whether a filter is TRUE without sublinks.
-fn keeps_all(condition: &Expr, subs: &[Sublink]) -> bool
+fn keeps_all(condition: &Expr, subs: &List<Sublink>) -> bool
     ensures { result ≡ (is_true condition.now && without_subs subs.now) }
 {
     is_true(condition) && subs.is_empty()

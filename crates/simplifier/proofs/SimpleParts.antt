@@ -1,11 +1,11 @@
 -- What is made of simple queries is simple.
-use Rattle.std.proofs.Common.{◌≡◌, Bool, true, ◌&&◌, not, Result, IfOk, ap, ◌∙◌}
+use Rattle.std.proofs.Common.{◌≡◌, true, ◌&&◌, not, Result, IfOk, ap, ◌∙◌}
 use Rattle.perm_values.proofs.Taken.{opened}
 use Rattle.perm_values.specs.declared.no_memory.NoMemory.{NoMemory}
 use Rattle.bag_algebra.specs.declared.query.Query.{Query}
 use Rattle.standing_nodes.proofs.Standing.{where_made}
 use Rattle.standing_nodes.specs.Made.{IsMade, IsMadeOfBoth}
-use Rattle.merged_nodes.specs.Once.{gives_once, IsMadeOnce, itself, over}
+use Rattle.merged_nodes.specs.Once.{IsMadeOnce, itself, over}
 use Rattle.folded_literals.specs.Simple.{is_simple}
 use Rattle.folded_literals.specs.built.Simple.{simple-Distinct}
 

@@ -1,4 +1,7 @@
-use Rattle.std.proofs.Common.{sym}
+use Rattle.std.proofs.Common.{[], sym, subst}
+use Rattle.bag_algebra.specs.Expressions.{value}
+use Rattle.row_values.specs.Answers.{Refuses}
+use Rattle.row_values.specs.declared.error.ExecError.{ExecError}
 use Rattle.folded_literals.proofs.OverLiterals.{constant-literal}
 use Rattle.folded_literals.proofs.Settling.{meets-fault, no_constant}
 use Rattle.folded_literals.proofs.folding.literal.Goals as goal
@@ -10,4 +13,6 @@ pub returns-in-Ok-clause-same : goal.returns-in-Ok-clause-same
 returns-in-Ok-clause-same c = constant-literal c.args.expr.now _ _ (sym c.in-Some.ensures) c.in-Ok.ensures
 
 pub returns-in-Err-Fault-clause-none : goal.returns-in-Err-Fault-clause-none
-returns-in-Err-Fault-clause-none c = meets-fault c.args.expr.now _ c.in-Err-Fault.ensures
+returns-in-Err-Fault-clause-none c =
+    meets-fault c.args.expr.now _
+    (subst (λ (error : ExecError). Refuses (value c.args.expr.now [] [] []) error) c.in-Err-Fault.field-0-is c.in-Err-Fault.ensures)

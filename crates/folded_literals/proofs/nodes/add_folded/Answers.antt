@@ -1,5 +1,6 @@
-use Rattle.std.proofs.Common.{◌≡◌, true, ◌∷◌, ◌++◌, [], sym, ap, ◌∙◌, subst}
+use Rattle.std.proofs.Common.{◌≡◌, true, List, ◌∷◌, ◌++◌, [], sym, ap, ◌∙◌, subst}
 use Rattle.bag_algebra.specs.Rewriting.{Stands}
+use Rattle.bag_algebra.specs.declared.query.Sublink.{Sublink}
 use Rattle.query_laws.specs.Standing.{SubsStand}
 use Rattle.perm_values.proofs.Taken.{opened}
 use Rattle.standing_nodes.proofs.Standing.{appended, stand-more}
@@ -18,6 +19,6 @@ returns-clause-stand c subs h k =
 
 pub returns-clause-simple : goal.returns-clause-simple
 returns-clause-simple c h k =
-    appended (λ others. all_simple others ≡ true) _ _ _ c.push.ensures.ok
+    appended (λ (others : List Sublink). all_simple others ≡ true) _ _ _ c.push.ensures.ok
     (sublinks-simple _ _ h c.in_ok-other.ensures.tested_settled
     (ap is_simple c.in_ok-other.ensures.over ∙ opened (λ b. is_simple b ≡ true) c.args.query _ c.in_ok-query.was k))

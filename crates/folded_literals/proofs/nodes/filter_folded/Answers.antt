@@ -15,7 +15,7 @@ use Rattle.folded_literals.proofs.nodes.filter_folded.Goals as goal
 pub returns-then-keeps_all-clause-stands : goal.returns-then-keeps_all-clause-stands
 returns-then-keeps_all-clause-stands c q originals h k =
     let given = c.in_ok-input.ensures in
-    kept-all _ _ _ c.as_slice.ensures q _ c.args.condition.now originals (opened (λ b. Stands q b) c.args.input _ given.first_was h)
+    kept-all c.in_ok-input.condition c.in_ok-input.subs q c.in_ok-input.input c.args.condition.now originals (opened (λ b. Stands q b) c.args.input _ given.first_was h)
     (opened (λ e. SameExpr c.args.condition.now e) c.folded.result _ given.second_was c.folded.ensures.same)
     (opened (λ others. SubsStand originals others) c.args.subs _ given.third_was k) (sym c.keeps_all.ensures ∙ c.if-keeps_all.true)
 
@@ -34,6 +34,6 @@ pub returns-clause-simple : goal.returns-clause-simple
 returns-clause-simple c h k =
     let given = c.in_ok-input.ensures in
     of_made (λ p. is_simple p ≡ true) c.filter.result _ c.filter.ensures
-    (filter-simple _ _ _ c.as_slice.ensures _ (opened (λ b. is_simple b ≡ true) c.args.input _ given.first_was h)
+    (filter-simple c.in_ok-input.condition c.in_ok-input.subs c.in_ok-input.input (opened (λ b. is_simple b ≡ true) c.args.input _ given.first_was h)
     (opened (λ e. is_settled e ≡ true) c.folded.result _ given.second_was c.folded.ensures.settled)
     (opened (λ others. all_simple others ≡ true) c.args.subs _ given.third_was k) (sym c.keeps_all.ensures ∙ c.if-keeps_all.false))
