@@ -20,5 +20,5 @@ returns-clause-stand c subs h k =
 pub returns-clause-simple : goal.returns-clause-simple
 returns-clause-simple c h k =
     appended (λ (others : List Sublink). all_simple others ≡ true) _ _ _ c.push.ensures.ok
-    (sublinks-simple _ _ h c.in_ok-other.ensures.tested_settled
+    (sublinks-simple c.args.others.now c.in_ok-other.other h c.in_ok-other.ensures.tested_settled
     (ap is_simple c.in_ok-other.ensures.over ∙ opened (λ b. is_simple b ≡ true) c.args.query _ c.in_ok-query.was k))
