@@ -26,5 +26,5 @@ pub returns-clause-simple : goal.returns-clause-simple
 returns-clause-simple c h =
     let given = c.in_ok-input.ensures in
     of_made (λ p. is_simple p ≡ true) c.aggregate.result _ c.aggregate.ensures
-    (aggregate-simple _ _ _ (opened (λ b. is_simple b ≡ true) c.args.input _ given.first_was h)
+    (aggregate-simple c.in_ok-input.input c.in_ok-input.groups c.in_ok-input.made (opened (λ b. is_simple b ≡ true) c.args.input _ given.first_was h)
     (opened (λ made. arguments_pass is_settled made ≡ true) c.folded_aggregates-made.result _ given.third_was c.folded_aggregates-made.ensures.settled))

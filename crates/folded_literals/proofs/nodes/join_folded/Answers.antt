@@ -24,6 +24,6 @@ pub returns-clause-simple : goal.returns-clause-simple
 returns-clause-simple c h g k =
     let given = c.in_ok-left.ensures in
     of_made (λ p. is_simple p ≡ true) c.join.result _ c.join.ensures
-    (join-simple c.args.kind _ _ _ _ (opened (λ b. is_simple b ≡ true) c.args.left _ given.first_was h) (opened (λ d. is_simple d ≡ true) c.args.right _ given.second_was g)
+    (join-simple c.args.kind c.in_ok-left.left c.in_ok-left.right c.in_ok-left.condition c.in_ok-left.subs (opened (λ b. is_simple b ≡ true) c.args.left _ given.first_was h) (opened (λ d. is_simple d ≡ true) c.args.right _ given.second_was g)
     (opened (λ e. is_settled e ≡ true) c.folded.result _ given.third_was c.folded.ensures.settled)
     (opened (λ others. all_simple others ≡ true) c.args.subs _ given.fourth_was k))

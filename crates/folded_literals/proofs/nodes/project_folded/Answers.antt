@@ -27,6 +27,6 @@ pub returns-clause-simple : goal.returns-clause-simple
 returns-clause-simple c h k =
     let given = c.in_ok-input.ensures in
     of_made (λ p. is_simple p ≡ true) c.project.result _ c.project.ensures
-    (project-simple _ _ _ (opened (λ b. is_simple b ≡ true) c.args.input _ given.first_was h)
+    (project-simple c.in_ok-input.input c.in_ok-input.made c.in_ok-input.subs (opened (λ b. is_simple b ≡ true) c.args.input _ given.first_was h)
     (opened (λ made. items_pass is_settled made ≡ true) c.folded_items-made.result _ given.second_was c.folded_items-made.ensures.settled)
     (opened (λ others. all_simple others ≡ true) c.args.subs _ given.third_was k))

@@ -95,7 +95,7 @@ folded_query-folded_query-rights-requires-in-Union t c =
 pub folded_query-returns-in-Union : goal.folded_query-returns-in-Union
 folded_query-returns-in-Union t c = record {
   stands = stands_where _ _ c.union_standing.result c.in-Union.is _ (λ p s. s) (c.union_standing.ensures.stands c.in-Union.left c.in-Union.right (rw c.get-in-Union.ensures at c.folded_query-lefts-in-Union.ensures.stands) (rw c.get-in-Union-2.ensures at c.folded_query-rights-in-Union.ensures.stands));
-  simple = both-simple c.union_standing.result (Union c.in-Union.all) (simple-Union c.in-Union.all) _ _ c.folded_query-lefts-in-Union.ensures.simple c.folded_query-rights-in-Union.ensures.simple
+  simple = both-simple c.union_standing.result (Union c.in-Union.all) (simple-Union c.in-Union.all) c.folded_query-lefts-in-Union.result c.folded_query-rights-in-Union.result c.folded_query-lefts-in-Union.ensures.simple c.folded_query-rights-in-Union.ensures.simple
       c.union_standing.ensures.made;
 }
 
@@ -110,7 +110,7 @@ folded_query-folded_query-rights-requires-in-Intersect t c =
 pub folded_query-returns-in-Intersect : goal.folded_query-returns-in-Intersect
 folded_query-returns-in-Intersect t c = record {
   stands = stands_where _ _ c.intersect_standing.result c.in-Intersect.is _ (λ p s. s) (c.intersect_standing.ensures.stands c.in-Intersect.left c.in-Intersect.right (rw c.get-in-Intersect.ensures at c.folded_query-lefts-in-Intersect.ensures.stands) (rw c.get-in-Intersect-2.ensures at c.folded_query-rights-in-Intersect.ensures.stands));
-  simple = both-simple c.intersect_standing.result (Intersect c.in-Intersect.all) (simple-Intersect c.in-Intersect.all) _ _ c.folded_query-lefts-in-Intersect.ensures.simple c.folded_query-rights-in-Intersect.ensures.simple
+  simple = both-simple c.intersect_standing.result (Intersect c.in-Intersect.all) (simple-Intersect c.in-Intersect.all) c.folded_query-lefts-in-Intersect.result c.folded_query-rights-in-Intersect.result c.folded_query-lefts-in-Intersect.ensures.simple c.folded_query-rights-in-Intersect.ensures.simple
       c.intersect_standing.ensures.made;
 }
 
@@ -125,7 +125,7 @@ folded_query-folded_query-rights-requires-in-Except t c =
 pub folded_query-returns-in-Except : goal.folded_query-returns-in-Except
 folded_query-returns-in-Except t c = record {
   stands = stands_where _ _ c.except_standing.result c.in-Except.is _ (λ p s. s) (c.except_standing.ensures.stands c.in-Except.left c.in-Except.right (rw c.get-in-Except.ensures at c.folded_query-lefts-in-Except.ensures.stands) (rw c.get-in-Except-2.ensures at c.folded_query-rights-in-Except.ensures.stands));
-  simple = both-simple c.except_standing.result (Except c.in-Except.all) (simple-Except c.in-Except.all) _ _ c.folded_query-lefts-in-Except.ensures.simple c.folded_query-rights-in-Except.ensures.simple
+  simple = both-simple c.except_standing.result (Except c.in-Except.all) (simple-Except c.in-Except.all) c.folded_query-lefts-in-Except.result c.folded_query-rights-in-Except.result c.folded_query-lefts-in-Except.ensures.simple c.folded_query-rights-in-Except.ensures.simple
       c.except_standing.ensures.made;
 }
 
@@ -136,7 +136,7 @@ folded_query-folded_query-requires-in-Distinct t c =
 pub folded_query-returns-in-Distinct : goal.folded_query-returns-in-Distinct
 folded_query-returns-in-Distinct t c = record {
   stands = stands_where _ _ c.distinct_once.result c.in-Distinct.is _ (λ p s. s) (c.distinct_once.ensures.stands c.in-Distinct.input (rw c.get-in-Distinct.ensures at c.folded_query-in-Distinct.ensures.stands));
-  simple = once-simple _ c.distinct_once.result c.folded_query-in-Distinct.ensures.simple c.distinct_once.ensures.made;
+  simple = once-simple c.folded_query-in-Distinct.result c.distinct_once.result c.folded_query-in-Distinct.ensures.simple c.distinct_once.ensures.made;
 }
 
 pub folded_query-folded_query-rows-requires-in-Aggregate : goal.folded_query-folded_query-rows-requires-in-Aggregate
@@ -156,7 +156,7 @@ folded_query-folded_query-rows-requires-in-Limit t c =
 pub folded_query-returns-in-Limit : goal.folded_query-returns-in-Limit
 folded_query-returns-in-Limit t c = record {
   stands = stands_where _ _ c.limit_standing.result c.in-Limit.is _ (λ p s. s) (c.limit_standing.ensures.stands c.in-Limit.input (rw c.get-in-Limit.ensures at c.folded_query-rows-in-Limit.ensures.stands));
-  simple = one-simple c.limit_standing.result (λ b. Limit b c.in-Limit.keys c.in-Limit.count) (λ b. simple-Limit b c.in-Limit.keys c.in-Limit.count) _
+  simple = one-simple c.limit_standing.result (λ b. Limit b c.in-Limit.keys c.in-Limit.count) (λ b. simple-Limit b c.in-Limit.keys c.in-Limit.count) c.folded_query-rows-in-Limit.result
       c.folded_query-rows-in-Limit.ensures.simple c.limit_standing.ensures.made;
 }
 
@@ -171,7 +171,7 @@ folded_query-folded_query-rights-requires-in-Apply t c =
 pub folded_query-returns-in-Apply : goal.folded_query-returns-in-Apply
 folded_query-returns-in-Apply t c = record {
   stands = stands_where _ _ c.apply_standing.result c.in-Apply.is _ (λ p s. s) (c.apply_standing.ensures.stands c.in-Apply.left c.in-Apply.right (rw c.get-in-Apply.ensures at c.folded_query-lefts-in-Apply.ensures.stands) (rw c.get-in-Apply-2.ensures at c.folded_query-rights-in-Apply.ensures.stands));
-  simple = both-simple c.apply_standing.result (Apply c.in-Apply.kind) (simple-Apply c.in-Apply.kind) _ _ c.folded_query-lefts-in-Apply.ensures.simple c.folded_query-rights-in-Apply.ensures.simple
+  simple = both-simple c.apply_standing.result (Apply c.in-Apply.kind) (simple-Apply c.in-Apply.kind) c.folded_query-lefts-in-Apply.result c.folded_query-rights-in-Apply.result c.folded_query-lefts-in-Apply.ensures.simple c.folded_query-rights-in-Apply.ensures.simple
       c.apply_standing.ensures.made;
 }
 
