@@ -122,8 +122,8 @@ pub fn add_folded(
     sub: &Sublink,
     query: Result<Query, NoMemory>,
 ) -> Result<(), NoMemory>
-    ensures stand { (subs : List Sublink) → SubsStand subs others.old → IfOk query (λ b. Stands sub.now.query b) →
-        OnOk result (SubsStand (subs ++ sub.now ∷ []) others.new) }
+    ensures stand { (subs : List Sublink) → SubsStand subs others.old →
+        IfOk query (λ b. Stands sub.now.query b) → OnOk result (SubsStand (subs ++ sub.now ∷ []) others.new) }
     ensures simple { all_simple others.old ≡ true → IfOk query (λ b. is_simple b ≡ true) →
         OnOk result (all_simple others.new ≡ true) }
 {
