@@ -1,2 +1,4 @@
 pub mod OverLiterals
 pub mod Rebuilt
+pub mod Settling
+pub mod SimpleNodes

@@ -1,3 +1,5 @@
 pub mod Constants
 pub mod Rebuilt
+pub mod Settled
+pub mod Simple
 pub mod built

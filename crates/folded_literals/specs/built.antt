@@ -1,1 +1,3 @@
 pub mod Constants
+pub mod Settled
+pub mod Simple

@@ -1,9 +1,11 @@
 //! An expression with the values of what stands over literals alone in its place.
-ghost use Rattle.std.specs.Prelude.{[], IfOk, IfSome};
+ghost use Rattle.std.specs.Prelude.{◌≡◌, Bool, true, false, [], IfOk, IfNone, IfSome};
 ghost use Rattle.bag_algebra.specs.Expressions.{value};
 ghost use Rattle.query_laws.specs.SameExpressions.{SameExpr};
 ghost use Rattle.row_values.specs.Answers.{Gives};
 ghost use Rattle.folded_literals.specs.Rebuilt.{SameParts, SameSteps, SameArms};
+ghost use Rattle.folded_literals.specs.Settled.{is_foldable, is_settled};
+ghost use Rattle.folded_literals.specs.built.Settled.{SettledBy, all_settled, all_steps_settled, all_arms_settled};
 
 use crate::constants::constant_kind;
 use bag_algebra::{Arm, ChainStep, Env, Expr};
@@ -15,7 +17,8 @@ use std::alloc::Global;
 /// values and faults on every row, and its kinds. It fails only for want of memory.
 #[cycle(folded)]
 pub fn folded(alloc: Global, expr: &Expr) -> Result<Expr, NoMemory>
-    ensures { IfOk result (λ made. SameExpr expr.now made) }
+    ensures same { IfOk result (λ made. SameExpr expr.now made) }
+    ensures settled { IfOk result (λ made. is_settled made ≡ true) }
 {
     match expr {
         Expr::Col { level, place } => Ok(Expr::Col {
@@ -63,7 +66,8 @@ pub fn folded(alloc: Global, expr: &Expr) -> Result<Expr, NoMemory>
 
 #[cycle(folded)]
 fn folded_boxed(alloc: Global, part: &Boxed<Expr>) -> Result<Boxed<Expr>, NoMemory>
-    ensures { IfOk result (λ made. SameExpr part.now made) }
+    ensures same { IfOk result (λ made. SameExpr part.now made) }
+    ensures settled { IfOk result (λ made. is_settled made ≡ true) }
 {
     let made = folded(alloc, part.get())?;
     Boxed::new(alloc, made)
@@ -71,7 +75,8 @@ fn folded_boxed(alloc: Global, part: &Boxed<Expr>) -> Result<Boxed<Expr>, NoMemo
 
 #[cycle(folded)]
 fn folded_parts(alloc: Global, parts: &[Expr]) -> Result<List<Expr>, NoMemory>
-    ensures { IfOk result (λ made. SameParts parts.now made) }
+    ensures same { IfOk result (λ made. SameParts parts.now made) }
+    ensures settled { IfOk result (λ made. all_settled made ≡ true) }
 {
     let mut made = List::new(alloc);
     for part in parts {
@@ -82,7 +87,8 @@ fn folded_parts(alloc: Global, parts: &[Expr]) -> Result<List<Expr>, NoMemory>
 
 #[cycle(folded)]
 fn folded_steps(alloc: Global, steps: &[ChainStep]) -> Result<List<ChainStep>, NoMemory>
-    ensures { IfOk result (λ made. SameSteps steps.now made) }
+    ensures same { IfOk result (λ made. SameSteps steps.now made) }
+    ensures settled { IfOk result (λ made. all_steps_settled made ≡ true) }
 {
     let mut made = List::new(alloc);
     for step in steps {
@@ -95,7 +101,8 @@ fn folded_steps(alloc: Global, steps: &[ChainStep]) -> Result<List<ChainStep>, N
 
 #[cycle(folded)]
 fn folded_arms(alloc: Global, arms: &[Arm]) -> Result<List<Arm>, NoMemory>
-    ensures { IfOk result (λ made. SameArms arms.now made) }
+    ensures same { IfOk result (λ made. SameArms arms.now made) }
+    ensures settled { IfOk result (λ made. all_arms_settled made ≡ true) }
 {
     let mut made = List::new(alloc);
     for arm in arms {
@@ -105,9 +112,11 @@ fn folded_arms(alloc: Global, arms: &[Arm]) -> Result<List<Arm>, NoMemory>
     Ok(made)
 }
 
-/// The expression, or its literal where it has one.
+/// The expression, or its literal where it has one. It is settled where the expression's parts are.
 fn settled(alloc: Global, expr: Expr) -> Result<Expr, NoMemory>
-    ensures { IfOk result (λ made. SameExpr expr made) }
+    ensures same { IfOk result (λ made. SameExpr expr made) }
+    ensures settled { (parts : Bool) → SettledBy expr parts → parts ≡ true →
+        IfOk result (λ made. is_settled made ≡ true) }
 {
     match literal(alloc, &expr) {
         Ok(Some(literal)) => Ok(literal),
@@ -118,15 +127,17 @@ fn settled(alloc: Global, expr: Expr) -> Result<Expr, NoMemory>
 
 /// The literal of an expression over literals alone that meets no fault.
 fn literal(alloc: Global, expr: &Expr) -> Result<Option<Expr>, NoMemory>
-    ensures { IfOk result (λ found. IfSome found (λ made. SameExpr expr.now made)) }
+    ensures same { IfOk result (λ found. IfSome found (λ made. SameExpr expr.now made)) }
+    ensures settled { IfOk result (λ found. IfSome found (λ made. is_settled made ≡ true)) }
+    ensures none { IfOk result (λ found. IfNone found (is_foldable expr.now ≡ false)) }
 {
-    let Some(kind) = constant_kind(expr) else {
-        return Ok(None);
-    };
-    match value(alloc, expr) {
-        Ok(value) => Ok(Some(Expr::Lit { value, kind })),
-        Err(ExecError::Fault(_)) => Ok(None),
-        Err(ExecError::NoMemory) => Err(NoMemory),
+    match constant_kind(expr) {
+        Some(kind) => match value(alloc, expr) {
+            Ok(value) => Ok(Some(Expr::Lit { value, kind })),
+            Err(ExecError::Fault(_)) => Ok(None),
+            Err(ExecError::NoMemory) => Err(NoMemory),
+        },
+        None => Ok(None),
     }
 }
 

@@ -1,7 +1,9 @@
 //! Items, aggregates and parts that may be left out, folded.
-ghost use Rattle.std.specs.Prelude.{IfOk};
+ghost use Rattle.std.specs.Prelude.{◌≡◌, true, IfOk};
 ghost use Rattle.contribution.specs.MovedColumns.{Along};
+ghost use Rattle.query_laws.specs.EveryExpression.{option_passes, items_pass, arguments_pass};
 ghost use Rattle.query_laws.specs.SameExpressions.{SameOptional, SameItem, SameAggregate};
+ghost use Rattle.folded_literals.specs.Settled.{is_settled};
 
 use crate::folding::folded;
 use bag_algebra::{Aggr, Expr, Item};
@@ -10,7 +12,8 @@ use std::alloc::Global;
 
 /// The items over folded expressions. It fails only for want of memory.
 pub fn folded_items(alloc: Global, items: &[Item]) -> Result<List<Item>, NoMemory>
-    ensures { IfOk result (λ made. Along SameItem items.now made) }
+    ensures same { IfOk result (λ made. Along SameItem items.now made) }
+    ensures settled { IfOk result (λ made. items_pass is_settled made ≡ true) }
 {
     let mut made = List::new(alloc);
     for item in items {
@@ -23,7 +26,8 @@ pub fn folded_items(alloc: Global, items: &[Item]) -> Result<List<Item>, NoMemor
 
 /// The aggregates over folded arguments. It fails only for want of memory.
 pub fn folded_aggregates(alloc: Global, aggregates: &[Aggr]) -> Result<List<Aggr>, NoMemory>
-    ensures { IfOk result (λ made. Along SameAggregate aggregates.now made) }
+    ensures same { IfOk result (λ made. Along SameAggregate aggregates.now made) }
+    ensures settled { IfOk result (λ made. arguments_pass is_settled made ≡ true) }
 {
     let mut made = List::new(alloc);
     for aggregate in aggregates {
@@ -41,7 +45,8 @@ pub fn folded_aggregates(alloc: Global, aggregates: &[Aggr]) -> Result<List<Aggr
 
 /// A part that may be left out, folded. It fails only for want of memory.
 pub fn folded_option(alloc: Global, part: &Option<Expr>) -> Result<Option<Expr>, NoMemory>
-    ensures { IfOk result (λ made. SameOptional part.now made) }
+    ensures same { IfOk result (λ made. SameOptional part.now made) }
+    ensures settled { IfOk result (λ made. option_passes is_settled made ≡ true) }
 {
     match part {
         None => Ok(None),

@@ -1,7 +1,8 @@
 -- Queries whose topmost node has no row twice.
-use Rattle.std.specs.Prelude.{Bool, true, false, not}
+use Rattle.std.specs.Prelude.{◌≡◌, Bool, true, false, not, Result, Ok}
+use Rattle.perm_values.specs.declared.no_memory.NoMemory.{NoMemory}
 use Rattle.bag_algebra.specs.declared.query.Query.{Query}
-use Rattle.bag_algebra.specs.declared.query.Query.TheVariants.{Table, Single, Base', Filter', Project', Join', Apply', Union', Intersect', Except', Distinct', Aggregate', Limit', Prov'}
+use Rattle.bag_algebra.specs.declared.query.Query.TheVariants.{Table, Single, Distinct, Base', Filter', Project', Join', Apply', Union', Intersect', Except', Distinct', Aggregate', Limit', Prov'}
 
 -- set operations without ALL, DISTINCT, groups, and the one row
 abbrev pub gives_once : Query → Bool
@@ -19,3 +20,8 @@ gives_once (Distinct' _ input) = true
 gives_once (Aggregate' _ input groups aggregates) = true
 gives_once (Limit' _ input keys count) = false
 gives_once (Prov' _ input) = false
+
+-- the distinct rows of what a call gave: that itself, or a DISTINCT over it where it may have a row twice
+pub data IsMadeOnce (given : Result Query NoMemory) (p : Query) : Type 0 where
+  itself : given ≡ Ok p → IsMadeOnce given p
+  over : (input : Query) → given ≡ Ok input → gives_once input ≡ false → p ≡ Distinct input → IsMadeOnce given p

@@ -3,7 +3,7 @@ ghost use Rattle.std.specs.Prelude.{◌≡◌, IfOk};
 ghost use Rattle.bag_algebra.specs.Rewriting.{Stands};
 ghost use Rattle.bag_algebra.specs.declared.query.Query.TheVariants.{Distinct};
 ghost use Rattle.bag_algebra.specs.declared.query.Query.{Query};
-ghost use Rattle.merged_nodes.specs.Once.{gives_once};
+ghost use Rattle.merged_nodes.specs.Once.{gives_once, IsMadeOnce};
 
 use bag_algebra::Query;
 use perm_values::NoMemory;
@@ -34,7 +34,8 @@ pub fn gives_once(query: &Query) -> bool
 /// What stands for a DISTINCT over what stands for its input: that itself, where it has no row twice. It fails where that
 /// failed, and for want of memory.
 pub fn distinct_once(alloc: Global, input: Result<Query, NoMemory>) -> Result<Query, NoMemory>
-    ensures { (q : Query) → IfOk input (λ b. Stands q b) → IfOk result (λ p. Stands (Distinct q) p) }
+    ensures stands { (q : Query) → IfOk input (λ b. Stands q b) → IfOk result (λ p. Stands (Distinct q) p) }
+    ensures made { IfOk result (λ p. IsMadeOnce input p) }
 {
     let input = input?;
     if gives_once(&input) {

@@ -1,5 +1,6 @@
 -- A filter with sublinks that can't fault: its conjuncts that need no sublink are tests below it.
 use Rattle.std.proofs.Common.{◌≡◌, ℕ, Bool, true, false, cond, not, ◌&&◌, ◌-◌, ◌^◌, List, [], ◌∷◌, ◌++◌, filter, Option, Some, None, refl, sym, ap, ◌∙◌, subst, true≢false}
+use Rattle.std.proofs.lemmas.List.Folds.{list_all-append}
 use Rattle.std.specs.List.{list_all}
 use Rattle.std.proofs.lemmas.Bool.{and_from}
 use Rattle.perm_values.specs.declared.kind.Kind.{Kind}
@@ -36,7 +37,7 @@ use Rattle.simpler_laws.proofs.Gathered.{filter-good, filter-twice, mapped-twice
 use Rattle.simpler_laws.proofs.Parting.{two-halves, passed, faultless-passed, have-passed}
 use Rattle.simpler_laws.proofs.Reading.{value-read, kind-read}
 use Rattle.simpler_laws.proofs.TestedQueries.{by, stands-same, kinds-tested, plain-tested, tables-tested, tables-untested, formed-tested, formed-untested, meaning-tested}
-use Rattle.simpler_laws.proofs.Testing.{all_hold-faultless, all_hold-formed, all_hold-met, conjuncts-faultless, conjuncts-formed, conjuncts-met, have-append, list_all-append}
+use Rattle.simpler_laws.proofs.Testing.{all_hold-faultless, all_hold-formed, all_hold-met, conjuncts-faultless, conjuncts-formed, conjuncts-met, have-append}
 use Rattle.simpler_laws.specs.Conjuncts.{conjuncts}
 use Rattle.simpler_laws.specs.Parts.{is_bound, is_free, IsParted}
 use Rattle.simpler_laws.specs.Tested.{hold, tested}

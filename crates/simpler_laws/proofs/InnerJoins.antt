@@ -1,5 +1,6 @@
 -- Tests of the pairs of an inner join: those of one side below it on that side, the others in its condition.
 use Rattle.std.proofs.Common.{◌≡◌, ℕ, Bool, true, ◌&&◌, List, [], ◌∷◌, ◌++◌, length, filter, refl, sym, ap, ◌∙◌, subst}
+use Rattle.std.proofs.lemmas.List.Folds.{list_all-append}
 use Rattle.std.proofs.lemmas.Bool.{and_from}
 use Rattle.std.specs.Prelude.{⊤}
 use Rattle.perm_values.specs.declared.kind.Kind.{Kind}
@@ -34,7 +35,7 @@ use Rattle.rewrite_base.proofs.Itself.{stands-onward}
 use Rattle.simpler_laws.proofs.Gathered.{paired_where, filter-paired, paired-decided, join-good, mapped-both, both-same}
 use Rattle.simpler_laws.proofs.Parting.{three-parts, two-halves, passed, faultless-passed, faultless-moved, have-passed, left-hold, right-hold, left-have, right-have}
 use Rattle.simpler_laws.proofs.TestedQueries.{by, stands-same, kinds-tested, plain-tested, tables-tested, tables-untested, formed-tested, formed-untested, meaning-tested, all-faultless}
-use Rattle.simpler_laws.proofs.Testing.{all_hold-faultless, all_hold-formed, all_hold-met, conjuncts-formed, conjuncts-met, have-append, list_all-append}
+use Rattle.simpler_laws.proofs.Testing.{all_hold-faultless, all_hold-formed, all_hold-met, conjuncts-formed, conjuncts-met, have-append}
 use Rattle.simpler_laws.specs.Conjuncts.{conjuncts}
 use Rattle.simpler_laws.specs.Sides.{is_around, is_left, is_own, is_right, is_right_alone, is_of_both, IsSplit}
 use Rattle.simpler_laws.specs.Tested.{hold, tested}

@@ -1,5 +1,6 @@
 -- A query with tests on its rows: what it means, when it is well formed, and what it reads.
 use Rattle.std.proofs.Common.{◌≡◌, ℕ, Bool, true, ◌&&◌, List, [], ◌∷◌, ◌++◌, filter, refl, sym, ap, ◌∙◌, subst, Contains}
+use Rattle.std.proofs.lemmas.List.Folds.{list_all-append}
 use Rattle.std.specs.Prelude.{⊤}
 use Rattle.perm_values.specs.declared.kind.Kind.{Kind}
 use Rattle.perm_values.specs.declared.kind.Kind.TheVariants as kind
@@ -28,7 +29,7 @@ use Rattle.contribution.specs.Conjunctions.{all_hold}
 use Rattle.query_laws.proofs.SameExpressions.{same-itself}
 use Rattle.query_laws.proofs.StandingNodes.{stands-Filter}
 use Rattle.simpler_laws.proofs.Gathered.{filter-all, filter-good, filter-twice, mapped-twice}
-use Rattle.simpler_laws.proofs.Testing.{all_hold-faultless, all_hold-formed, all_hold-met, all_hold-opened, conjuncts-faultless, conjuncts-formed, conjuncts-met, have-append, list_all-append}
+use Rattle.simpler_laws.proofs.Testing.{all_hold-faultless, all_hold-formed, all_hold-met, all_hold-opened, conjuncts-faultless, conjuncts-formed, conjuncts-met, have-append}
 use Rattle.simpler_laws.specs.Conjuncts.{conjuncts}
 use Rattle.simpler_laws.specs.Tested.{hold, tested}
 

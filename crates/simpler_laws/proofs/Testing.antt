@@ -1,7 +1,7 @@
 -- Tests taken together are true where each is; so are the conjuncts of a condition.
 use Rattle.std.proofs.Common.{◌≡◌, ◌≤◌, ℕ, Bool, true, false, cond, not, ◌&&◌, List, [], ◌∷◌, ◌++◌, length, refl, sym, ap, subst, ◌∙◌, true≢false, arith}
+use Rattle.std.proofs.lemmas.List.Folds.{list_all-append}
 use Rattle.std.specs.Prelude.{⊤}
-use Rattle.std.specs.List.{list_all}
 use Rattle.null_logic.specs.Logic.{truth_and, truth_of, value_of, is_true}
 use Rattle.null_logic.specs.declared.operator.Operator.{Operator}
 use Rattle.null_logic.specs.declared.operator.Operator.TheVariants as op
@@ -11,7 +11,7 @@ use Rattle.perm_values.specs.declared.kind.Kind.{Kind}
 use Rattle.perm_values.specs.declared.kind.Kind.TheVariants as kind
 use Rattle.perm_values.specs.declared.value.Value.{Value}
 use Rattle.perm_values.specs.declared.value.Value.TheVariants.{Null, Integer, Text, Boolean}
-use Rattle.bag_algebra.proofs.Truths.{and_true, and_associates, left-true, right-true, both-true}
+use Rattle.bag_algebra.proofs.Truths.{and_true, left-true, right-true, both-true}
 use Rattle.bag_algebra.specs.Bags.{Row}
 use Rattle.bag_algebra.specs.Children.{part_values}
 use Rattle.bag_algebra.specs.Expressions.{value, values, operate, all_true}
@@ -85,10 +85,6 @@ module _ (scopes : List (List Kind)) (subs : List Kind) where
   all_hold-opened (test ∷ other ∷ tests) h = parts_have-opened scopes subs (test ∷ other ∷ tests) kind.Boolean h.parts
 
 -- ---- lists of tests
-
-pub list_all-append : {X : Type 0} (test : X → Bool) (xs ys : List X) → list_all test (xs ++ ys) ≡ (list_all test xs && list_all test ys)
-list_all-append test [] ys = refl
-list_all-append test (x ∷ xs) ys = ap (λ b. test x && b) (list_all-append test xs ys) ∙ sym (and_associates (test x) (list_all test xs) (list_all test ys))
 
 pub have-append : (scopes : List (List Kind)) (subs : List Kind) (es fs : List Expr) (k : Kind) → AllHave scopes subs es k → AllHave scopes subs fs k →
     AllHave scopes subs (es ++ fs) k

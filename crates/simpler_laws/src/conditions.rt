@@ -64,8 +64,8 @@ fn is_and(op: Operator) -> bool
     matches!(op, Operator::And)
 }
 
-/// Whether the value is TRUE.
-fn is_always(value: &Value) -> bool
+/// Whether the value is TRUE. It takes no memory.
+pub fn is_always(value: &Value) -> bool
     ensures { result ≡ is_always value.now }
 {
     match value {

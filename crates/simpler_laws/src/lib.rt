@@ -10,7 +10,7 @@ mod nodes;
 mod pairs;
 
 pub use columns::reads_only;
-pub use conditions::{conjunction, conjuncts, with_conjuncts};
+pub use conditions::{conjunction, conjuncts, is_always, with_conjuncts};
 pub use filters::{Parts, all_fault_free, filter_parts};
 pub use lowering::{lowered, own_place, own_places};
 pub use nodes::{filter_on, inner_join, tested};

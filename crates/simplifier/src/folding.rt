@@ -1,23 +1,27 @@
 //! A query over folded expressions: each part over literals alone that meets no fault is its literal.
-ghost use Rattle.std.specs.Prelude.{IfOk, IsTrue};
+ghost use Rattle.std.specs.Prelude.{◌≡◌, true, IfOk, IsTrue};
 ghost use Rattle.bag_algebra.specs.Rewriting.{is_plain, Stands};
 ghost use Rattle.bag_algebra.specs.built.Scopes.{all_plain};
 ghost use Rattle.query_laws.specs.Standing.{SubsStand};
+ghost use Rattle.folded_literals.specs.Simple.{is_simple};
+ghost use Rattle.folded_literals.specs.built.Simple.{all_simple};
 
 use bag_algebra::{Query, Sublink};
 use folded_literals::{add_folded, aggregate_folded, filter_folded, join_folded, project_folded};
+use merged_nodes::distinct_once;
 use perm_values::{List, NoMemory};
 use standing_nodes::{
-    apply_standing, distinct_standing, except_standing, intersect_standing, limit_standing, table,
-    union_standing,
+    apply_standing, except_standing, intersect_standing, limit_standing, table, union_standing,
 };
 use std::alloc::Global;
 
-/// The query over folded expressions, without its sources. It fails only for want of memory.
+/// The query over folded expressions, without its sources, filters on TRUE and DISTINCTs over what has no row twice. It fails
+/// only for want of memory.
 #[cycle(folded_query)]
 pub(crate) fn folded_query(alloc: Global, query: &Query) -> Result<Query, NoMemory>
     requires { IsTrue (is_plain query.now) }
-    ensures { IfOk result (λ p. Stands query.now p) }
+    ensures stands { IfOk result (λ p. Stands query.now p) }
+    ensures simple { IfOk result (λ p. is_simple p ≡ true) }
 {
     match query {
         Query::Table { id, kinds } => table(alloc, *id, kinds),
@@ -64,7 +68,7 @@ pub(crate) fn folded_query(alloc: Global, query: &Query) -> Result<Query, NoMemo
             let rights = folded_query(alloc, right.get());
             except_standing(alloc, *all, lefts, rights)
         }
-        Query::Distinct { input } => distinct_standing(alloc, folded_query(alloc, input.get())),
+        Query::Distinct { input } => distinct_once(alloc, folded_query(alloc, input.get())),
         Query::Aggregate {
             input,
             groups,
@@ -90,7 +94,8 @@ pub(crate) fn folded_query(alloc: Global, query: &Query) -> Result<Query, NoMemo
 #[cycle(folded_query)]
 fn folded_subs(alloc: Global, subs: &[Sublink]) -> Result<List<Sublink>, NoMemory>
     requires { IsTrue (all_plain subs.now) }
-    ensures { IfOk result (λ others. SubsStand subs.now others) }
+    ensures stand { IfOk result (λ others. SubsStand subs.now others) }
+    ensures simple { IfOk result (λ others. all_simple others ≡ true) }
 {
     let mut others = List::new(alloc);
     for sub in subs {

@@ -8,6 +8,7 @@ ghost use Rattle.bag_algebra.specs.declared.query.JoinKind.TheVariants.{Inner};
 ghost use Rattle.bag_algebra.specs.declared.query.Query.{Query};
 ghost use Rattle.query_laws.specs.Standing.{SubsStand};
 ghost use Rattle.simpler_laws.specs.Tested.{tested};
+ghost use Rattle.folded_literals.specs.Simple.{is_simple};
 
 use crate::folding::folded_query;
 use crate::raising::{above, filter_node, join_node, pairs_where};
@@ -23,15 +24,29 @@ use std::alloc::Global;
 
 /// A plain query that stands for the query, with joins on the tests that filters above them make of pairs of rows, and with
 /// tests of one side of an inner join below it on that side. What may fault stays where it is. It stands for whatever the
-/// query stands for. It fails only for want of memory.
+/// query stands for, and is simple. It fails only for want of memory.
 pub fn simplify(alloc: Global, query: Query) -> Result<Query, NoMemory>
     requires { IsTrue (is_plain query) }
     ensures stands { IfOk result (λ p. Stands query p) }
     ensures onward { (q : Query) → Stands q query → IfOk result (λ p. Stands q p) }
+    ensures simple { IfOk result (λ p. IsTrue (is_simple p)) }
 {
     let folded = folded_query(alloc, &query);
     drop(query);
-    lowered_tests(alloc, folded)
+    folded_again(alloc, lowered_tests(alloc, folded))
+}
+
+/// What stands for whatever the query stands for, folded once more: a literal may have come into a column's place. It fails
+/// where the query failed, and for want of memory.
+fn folded_again(alloc: Global, query: Result<Query, NoMemory>) -> Result<Query, NoMemory>
+    requires { IfOk query (λ b. IsTrue (is_plain b)) }
+    ensures stands { (q : Query) → IfOk query (λ b. Stands q b) → IfOk result (λ p. Stands q p) }
+    ensures simple { IfOk result (λ p. IsTrue (is_simple p)) }
+{
+    let given = query?;
+    let made = folded_query(alloc, &given);
+    drop(given);
+    made
 }
 
 /// What stands for whatever the query stands for, with its tests where they can be made first. It fails where the query

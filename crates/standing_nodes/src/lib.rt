@@ -5,7 +5,7 @@ mod nodes;
 mod sublinks;
 
 pub use nodes::{
-    aggregate_standing, apply_standing, distinct_standing, except_standing, filter_standing,
-    intersect_standing, join_standing, limit_standing, project_standing, table, union_standing,
+    aggregate_standing, apply_standing, except_standing, filter_standing, intersect_standing,
+    join_standing, limit_standing, project_standing, table, union_standing,
 };
 pub use sublinks::add_standing;

@@ -2,10 +2,11 @@
 //! these, so that no query is at hand where one of those calls fails.
 ghost use Rattle.std.specs.Prelude.{◌≡◌, List, IfOk};
 ghost use Rattle.bag_algebra.specs.Rewriting.{Stands};
-ghost use Rattle.bag_algebra.specs.declared.query.Query.TheVariants.{Table, Filter, Project, Join, Apply, Union, Intersect, Except, Distinct, Aggregate, Limit};
+ghost use Rattle.bag_algebra.specs.declared.query.Query.TheVariants.{Table, Filter, Project, Join, Apply, Union, Intersect, Except, Aggregate, Limit};
 ghost use Rattle.bag_algebra.specs.declared.query.Query.{Query};
 ghost use Rattle.bag_algebra.specs.declared.query.Sublink.{Sublink};
 ghost use Rattle.query_laws.specs.Standing.{SubsStand};
+ghost use Rattle.standing_nodes.specs.Made.{IsMade, IsMadeOfBoth};
 
 use bag_algebra::{Aggr, Expr, Item, JoinKind, Query, Sublink};
 use perm_values::{Copyable, Key, Kind, List, NoMemory, both, four, three};
@@ -74,8 +75,9 @@ pub fn union_standing(
     left: Result<Query, NoMemory>,
     right: Result<Query, NoMemory>,
 ) -> Result<Query, NoMemory>
-    ensures { (q r : Query) → IfOk left (λ b. Stands q b) → IfOk right (λ d. Stands r d) →
+    ensures stands { (q r : Query) → IfOk left (λ b. Stands q b) → IfOk right (λ d. Stands r d) →
         IfOk result (λ p. Stands (Union all q r) p) }
+    ensures made { IfOk result (λ p. IsMadeOfBoth left right (Union all) p) }
 {
     let (left, right) = both(left, right)?;
     Query::union(alloc, all, left, right)
@@ -88,8 +90,9 @@ pub fn apply_standing(
     left: Result<Query, NoMemory>,
     right: Result<Query, NoMemory>,
 ) -> Result<Query, NoMemory>
-    ensures { (q r : Query) → IfOk left (λ b. Stands q b) → IfOk right (λ d. Stands r d) →
+    ensures stands { (q r : Query) → IfOk left (λ b. Stands q b) → IfOk right (λ d. Stands r d) →
         IfOk result (λ p. Stands (Apply kind q r) p) }
+    ensures made { IfOk result (λ p. IsMadeOfBoth left right (Apply kind) p) }
 {
     let (left, right) = both(left, right)?;
     Query::apply(alloc, kind, left, right)
@@ -102,8 +105,9 @@ pub fn intersect_standing(
     left: Result<Query, NoMemory>,
     right: Result<Query, NoMemory>,
 ) -> Result<Query, NoMemory>
-    ensures { (q r : Query) → IfOk left (λ b. Stands q b) → IfOk right (λ d. Stands r d) →
+    ensures stands { (q r : Query) → IfOk left (λ b. Stands q b) → IfOk right (λ d. Stands r d) →
         IfOk result (λ p. Stands (Intersect all q r) p) }
+    ensures made { IfOk result (λ p. IsMadeOfBoth left right (Intersect all) p) }
 {
     let (left, right) = both(left, right)?;
     Query::intersect(alloc, all, left, right)
@@ -116,19 +120,12 @@ pub fn except_standing(
     left: Result<Query, NoMemory>,
     right: Result<Query, NoMemory>,
 ) -> Result<Query, NoMemory>
-    ensures { (q r : Query) → IfOk left (λ b. Stands q b) → IfOk right (λ d. Stands r d) →
+    ensures stands { (q r : Query) → IfOk left (λ b. Stands q b) → IfOk right (λ d. Stands r d) →
         IfOk result (λ p. Stands (Except all q r) p) }
+    ensures made { IfOk result (λ p. IsMadeOfBoth left right (Except all) p) }
 {
     let (left, right) = both(left, right)?;
     Query::except(alloc, all, left, right)
-}
-
-/// What stands for a DISTINCT over what stands for its input. It fails where one of these failed, and for want of memory.
-pub fn distinct_standing(alloc: Global, input: Result<Query, NoMemory>) -> Result<Query, NoMemory>
-    ensures { (q : Query) → IfOk input (λ b. Stands q b) → IfOk result (λ p. Stands (Distinct q) p) }
-{
-    let input = input?;
-    Query::distinct(alloc, input)
 }
 
 /// What stands for an Aggregate over what stands for its input. It fails where one of these failed, and for want of memory.
@@ -152,8 +149,9 @@ pub fn limit_standing(
     keys: &List<Key>,
     count: u64,
 ) -> Result<Query, NoMemory>
-    ensures { (q : Query) → IfOk input (λ b. Stands q b) →
+    ensures stands { (q : Query) → IfOk input (λ b. Stands q b) →
         IfOk result (λ p. Stands (Limit q keys.now count) p) }
+    ensures made { IfOk result (λ p. IsMade input (λ b. Limit b keys.now count) p) }
 {
     let (input, keys) = both(input, keys.copy(alloc))?;
     Query::limit(alloc, input, keys, count)

@@ -85,7 +85,7 @@ node-under-rights-requires-in-Union t c =
 
 pub node-returns-in-Union : goal.node-returns-in-Union
 node-returns-in-Union t c =
-    stands_where _ _ c.union_standing.result c.in-Union.is _ (λ p s. s) (c.union_standing.ensures c.in-Union.left c.in-Union.right (rw c.get-in-Union.ensures at c.under-lefts-in-Union.ensures) (rw c.get-in-Union-2.ensures at c.under-rights-in-Union.ensures))
+    stands_where _ _ c.union_standing.result c.in-Union.is _ (λ p s. s) (c.union_standing.ensures.stands c.in-Union.left c.in-Union.right (rw c.get-in-Union.ensures at c.under-lefts-in-Union.ensures) (rw c.get-in-Union-2.ensures at c.under-rights-in-Union.ensures))
 
 pub node-under-lefts-requires-in-Intersect : goal.node-under-lefts-requires-in-Intersect
 node-under-lefts-requires-in-Intersect t c =
@@ -97,7 +97,7 @@ node-under-rights-requires-in-Intersect t c =
 
 pub node-returns-in-Intersect : goal.node-returns-in-Intersect
 node-returns-in-Intersect t c =
-    stands_where _ _ c.intersect_standing.result c.in-Intersect.is _ (λ p s. s) (c.intersect_standing.ensures c.in-Intersect.left c.in-Intersect.right (rw c.get-in-Intersect.ensures at c.under-lefts-in-Intersect.ensures) (rw c.get-in-Intersect-2.ensures at c.under-rights-in-Intersect.ensures))
+    stands_where _ _ c.intersect_standing.result c.in-Intersect.is _ (λ p s. s) (c.intersect_standing.ensures.stands c.in-Intersect.left c.in-Intersect.right (rw c.get-in-Intersect.ensures at c.under-lefts-in-Intersect.ensures) (rw c.get-in-Intersect-2.ensures at c.under-rights-in-Intersect.ensures))
 
 pub node-under-lefts-requires-in-Except : goal.node-under-lefts-requires-in-Except
 node-under-lefts-requires-in-Except t c =
@@ -109,7 +109,7 @@ node-under-rights-requires-in-Except t c =
 
 pub node-returns-in-Except : goal.node-returns-in-Except
 node-returns-in-Except t c =
-    stands_where _ _ c.except_standing.result c.in-Except.is _ (λ p s. s) (c.except_standing.ensures c.in-Except.left c.in-Except.right (rw c.get-in-Except.ensures at c.under-lefts-in-Except.ensures) (rw c.get-in-Except-2.ensures at c.under-rights-in-Except.ensures))
+    stands_where _ _ c.except_standing.result c.in-Except.is _ (λ p s. s) (c.except_standing.ensures.stands c.in-Except.left c.in-Except.right (rw c.get-in-Except.ensures at c.under-lefts-in-Except.ensures) (rw c.get-in-Except-2.ensures at c.under-rights-in-Except.ensures))
 
 pub node-under-requires-in-Distinct : goal.node-under-requires-in-Distinct
 node-under-requires-in-Distinct t c =
@@ -117,7 +117,7 @@ node-under-requires-in-Distinct t c =
 
 pub node-returns-in-Distinct : goal.node-returns-in-Distinct
 node-returns-in-Distinct t c =
-    stands_where _ _ c.distinct_once.result c.in-Distinct.is _ (λ p s. s) (c.distinct_once.ensures c.in-Distinct.input (rw c.get-in-Distinct.ensures at c.under-in-Distinct.ensures))
+    stands_where _ _ c.distinct_once.result c.in-Distinct.is _ (λ p s. s) (c.distinct_once.ensures.stands c.in-Distinct.input (rw c.get-in-Distinct.ensures at c.under-in-Distinct.ensures))
 
 pub node-under-rows-requires-in-Aggregate : goal.node-under-rows-requires-in-Aggregate
 node-under-rows-requires-in-Aggregate t c =
@@ -133,7 +133,7 @@ node-under-rows-requires-in-Limit t c =
 
 pub node-returns-in-Limit : goal.node-returns-in-Limit
 node-returns-in-Limit t c =
-    stands_where _ _ c.limit_standing.result c.in-Limit.is _ (λ p s. s) (c.limit_standing.ensures c.in-Limit.input (rw c.get-in-Limit.ensures at c.under-rows-in-Limit.ensures))
+    stands_where _ _ c.limit_standing.result c.in-Limit.is _ (λ p s. s) (c.limit_standing.ensures.stands c.in-Limit.input (rw c.get-in-Limit.ensures at c.under-rows-in-Limit.ensures))
 
 pub node-under-lefts-requires-in-Apply : goal.node-under-lefts-requires-in-Apply
 node-under-lefts-requires-in-Apply t c =
@@ -145,7 +145,7 @@ node-under-rights-requires-in-Apply t c =
 
 pub node-returns-in-Apply : goal.node-returns-in-Apply
 node-returns-in-Apply t c =
-    stands_where _ _ c.apply_standing.result c.in-Apply.is _ (λ p s. s) (c.apply_standing.ensures c.in-Apply.left c.in-Apply.right (rw c.get-in-Apply.ensures at c.under-lefts-in-Apply.ensures) (rw c.get-in-Apply-2.ensures at c.under-rights-in-Apply.ensures))
+    stands_where _ _ c.apply_standing.result c.in-Apply.is _ (λ p s. s) (c.apply_standing.ensures.stands c.in-Apply.left c.in-Apply.right (rw c.get-in-Apply.ensures at c.under-lefts-in-Apply.ensures) (rw c.get-in-Apply-2.ensures at c.under-rights-in-Apply.ensures))
 
 pub node-unreachable-requires : goal.node-unreachable-requires
 node-unreachable-requires t c =

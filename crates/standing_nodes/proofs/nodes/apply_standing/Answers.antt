@@ -1,10 +1,17 @@
+use Rattle.std.proofs.Common.{refl}
 use Rattle.bag_algebra.specs.Rewriting.{Stands}
 use Rattle.bag_algebra.specs.declared.query.Query.TheVariants.{Apply}
 use Rattle.query_laws.proofs.StandingNodes.{stands-Apply}
 use Rattle.contribution.proofs.NodeQueries.{of_made}
 use Rattle.perm_values.proofs.Taken.{opened}
+use Rattle.standing_nodes.specs.Made.{IsMadeOfBoth}
 use Rattle.standing_nodes.proofs.nodes.apply_standing.Goals as goal
 
-pub returns : goal.returns
-returns c q r h i =
+pub returns-clause-stands : goal.returns-clause-stands
+returns-clause-stands c q r h i =
     of_made (λ p. Stands (Apply c.args.kind q r) p) c.apply.result _ c.apply.ensures (stands-Apply q _ (opened (λ b. Stands q b) c.args.left _ c.in_ok-left.ensures.first_was h) r _ (opened (λ b. Stands r b) c.args.right _ c.in_ok-left.ensures.second_was i) c.args.kind)
+
+pub returns-clause-made : goal.returns-clause-made
+returns-clause-made c =
+    of_made (λ p. IsMadeOfBoth c.args.left c.args.right (Apply c.args.kind) p) c.apply.result _ c.apply.ensures
+    (record { first = _; second = _; first_was = c.in_ok-left.ensures.first_was; second_was = c.in_ok-left.ensures.second_was; is = refl })

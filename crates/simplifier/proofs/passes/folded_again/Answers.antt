@@ -1,0 +1,14 @@
+use Rattle.std.proofs.Common.{◌≡◌, true}
+use Rattle.bag_algebra.specs.Rewriting.{is_plain, Stands}
+use Rattle.perm_values.proofs.Taken.{opened}
+use Rattle.rewrite_base.proofs.Itself.{stands-onward}
+use Rattle.standing_nodes.proofs.Standing.{where_made}
+use Rattle.simplifier.proofs.passes.folded_again.Goals as goal
+
+pub folded_query-made-requires : goal.folded_query-made-requires
+folded_query-made-requires c = opened (λ b. is_plain b ≡ true) c.args.query _ c.in_ok-given.was c.requires
+
+pub returns-clause-stands : goal.returns-clause-stands
+returns-clause-stands c q h =
+    where_made (λ p. Stands c.in_ok-given.given p) (λ p. Stands q p) c.folded_query-made.result
+    (λ p s. stands-onward q c.in_ok-given.given p (opened (λ b. Stands q b) c.args.query _ c.in_ok-given.was h) s) c.folded_query-made.ensures.stands
