@@ -14,6 +14,7 @@ use Rattle.bag_algebra.specs.declared.query.Answer.{Answer}
 use Rattle.bag_algebra.specs.declared.query.Query.{Query}
 use Rattle.bag_algebra.proofs.Closing.{query_within}
 use Rattle.csv_tables.specs.AnswerText.{answer_bytes}
+use Rattle.folded_literals.specs.Simple.{is_simple}
 use Rattle.row_values.specs.Answers.{Refuses}
 use Rattle.row_values.specs.declared.error.ExecError.{ExecError}
 use Rattle.row_values.specs.declared.error.ExecError.TheVariants.{Fault, NoMemory}
@@ -59,13 +60,14 @@ module _ (c : Contents) (answer : Answer) (plain : Query) where
   same-sorted (Good us) other vs same is = same_bag-trans us vs (sorted cmp vs) (subst (SameRows (Good us)) is same) (same_bag-sorted cmp vs)
   same-sorted (Bad f) other vs same is = absurd (subst (SameRows (Bad f)) is same)
 
-  module _ (can : CanRun c answer) (s : Stands answer.query plain) where
+  module _ (can : CanRun c answer) (s : Stands answer.query plain) (simple : is_simple plain ≡ true) where
     same-rows : SameRows (meaning answer.query (rows_in c.rows) []) (meaning plain (rows_in c.rows) [])
     same-rows = s.rows [] (rows_in c.rows) [] can.formed can.fitting refl
 
     run-made : (vs : Bag) → meaning plain (rows_in c.rows) [] ≡ Good vs → RunsFor c answer (made plain (sorted cmp vs))
     run-made vs is = record {
       plain = s.plain;
+      simple = simple;
       closed = query_within [] plain 0 refl (s.formed [] can.formed);
       formed = s.formed [] can.formed;
       kinds = s.kinds [] can.formed;

@@ -17,6 +17,7 @@ use Rattle.bag_algebra.specs.declared.query.Answer.{Answer}
 use Rattle.bag_algebra.specs.declared.query.Query.{Query}
 use Rattle.csv_tables.specs.AnswerText.{answer_bytes}
 use Rattle.delete_impact.specs.Impact.{IsImpact}
+use Rattle.folded_literals.specs.Simple.{is_simple}
 use Rattle.row_values.specs.Answers.{Refuses}
 use Rattle.row_values.specs.declared.error.ExecError.{ExecError}
 use Rattle.perm_catalog.specs.Contents.{Contents}
@@ -34,10 +35,11 @@ Keeps run (Ok done) None = ⊥
 Keeps run (Err error) (Some ran) = ⊥
 Keeps run (Err error) None = Refuses run error
 
--- The run of a query without PROVENANCE that reads no outer row, has the kinds of the one that is run for and, on every
--- database that fits that, its rows, as often, or its faults. Both have the run's rows over the catalog's tables, as often.
+-- The run of a simple query without PROVENANCE that reads no outer row, has the kinds of the one that is run for and, on
+-- every database that fits that, its rows, as often, or its faults. Both have the run's rows over the catalog's tables, as often.
 pub record RunsFor (c : Contents) (answer : Answer) (ran : Ran) : Type 0 where
   pub plain : is_plain ran.query ≡ true
+  pub simple : is_simple ran.query ≡ true
   pub closed : is_closed ran.query ≡ true
   pub formed : WellFormed [] ran.query
   pub kinds : kinds_of ran.query ≡ kinds_of answer.query

@@ -3,5 +3,8 @@ use Rattle.statement_steps.proofs.plain.plain_query.Goals as goal
 pub simplify-requires : goal.simplify-requires
 simplify-requires c = c.in_ok-plain.ensures.stands.plain
 
-pub returns : goal.returns
-returns c = c.simplify.ensures.onward c.args.query.now c.in_ok-plain.ensures.stands
+pub returns-clause-stands : goal.returns-clause-stands
+returns-clause-stands c = c.simplify.ensures.onward c.args.query.now c.in_ok-plain.ensures.stands
+
+pub returns-clause-simple : goal.returns-clause-simple
+returns-clause-simple c = c.simplify.ensures.simple
