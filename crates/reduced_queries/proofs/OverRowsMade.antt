@@ -20,7 +20,7 @@ use Rattle.bag_algebra.specs.declared.query.Query.TheVariants.{Table, Base, Filt
 use Rattle.bag_algebra.specs.declared.query.Sublink.{Sublink}
 use Rattle.monotone_queries.specs.Monotone.{is_inner, is_monotone, is_relation, is_whole_table}
 use Rattle.monotone_queries.proofs.Nodes.{is_monotone-Base, whole_table-is}
-use Rattle.reduced_queries.specs.Reduced.{not_true, over_rows, reduced, rows_of}
+use Rattle.reduced_queries.specs.Reduced.{over_rows, rows_of}
 
 module _ (id : ℕ) (condition : Expr) where
   -- p is the query over the rows of the table on which the condition is true, where the query is monotone
@@ -164,9 +164,3 @@ module _ (id : ℕ) (condition : Expr) where
   -- a copy of what no monotone query has
   pub copy-answer : (query q copied : Query) (result : Result Query NoMemory) → query ≡ q → ((p : Query) → Made q p) → IfOk result (λ copy. copy ≡ copied) → IfOk result (Made query)
   copy-answer query q copied result is other made = onward result (λ copy. copy ≡ copied) q query is made (λ p whole. other p)
-
--- over the rows on which the condition isn't true the query is the reduced one
-pub reduced-answer : (id : ℕ) (condition spared : Expr) (query : Query) (r : Result Expr NoMemory) → IfOk r (λ e. e ≡ not_true condition) → r ≡ Ok spared →
-    (result : Result Query NoMemory) → IfOk result (Made id spared query) → IfOk result (λ p. IsTrue (is_monotone query) → p ≡ reduced id condition query)
-reduced-answer id condition spared query r made is result =
-    subst (λ e. IfOk result (Made id spared query) → IfOk result (Made id e query)) (opened (λ e. e ≡ not_true condition) r spared made is) (λ h. h)

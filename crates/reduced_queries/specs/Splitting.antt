@@ -2,7 +2,7 @@
 use Rattle.std.specs.Prelude.{ℕ, Bool, true, false, ◌&&◌, ◌||◌, is_none}
 use Rattle.bag_algebra.specs.built.Patterns.{BaseOf, FilterOf, ProjectOf, JoinOf, ApplyOf, UnionOf, IntersectOf, ExceptOf, DistinctOf, AggregateOf, LimitOf, ProvOf}
 use Rattle.bag_algebra.specs.declared.query.Query.{Query}
-use Rattle.bag_algebra.specs.declared.query.Query.TheVariants.{Table, Single, Base', Filter', Project', Join', Apply', Union', Intersect', Except', Distinct', Aggregate', Limit', Prov'}
+use Rattle.bag_algebra.specs.declared.query.Query.TheVariants.{Table, Single, Base', Filter', Project', Apply', Union', Intersect', Except', Distinct', Aggregate', Limit', Prov'}
 use Rattle.reduced_queries.specs.Reads.{first_kinds}
 
 -- it doesn't read the table of this identity, sublinks aside
@@ -16,7 +16,7 @@ own_splits id Single = true
 own_splits id (Base' _ input places label) = true
 own_splits id (Filter' _ input condition _ subs) = true
 own_splits id (Project' _ input items _ subs) = true
-own_splits id (Join' kind _ left _ right condition _ subs) = lacks id left || lacks id right
+own_splits id (JoinOf kind left right condition _ subs) = lacks id left || lacks id right
 own_splits id (Apply' kind _ left _ right) = false
 own_splits id (Union' all _ left _ right) = true
 own_splits id (Intersect' all _ left _ right) = false

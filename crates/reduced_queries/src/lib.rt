@@ -4,12 +4,12 @@
 
 mod hiding;
 mod missing_rows;
-mod over_rows;
 mod reads;
+mod some_rows;
 mod splitting;
 
 pub use hiding::hides_none;
 pub use missing_rows::{behind, missing, missing_part};
-pub use over_rows::{over_rows, reduced};
 pub use reads::first_kinds;
+pub use some_rows::{over_rows, reduced};
 pub use splitting::splits;

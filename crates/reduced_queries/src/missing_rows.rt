@@ -3,7 +3,7 @@ ghost use Rattle.std.specs.Prelude.{◌≡◌, IfOk, IsTrue};
 ghost use Rattle.monotone_queries.specs.Monotone.{is_monotone};
 ghost use Rattle.reduced_queries.specs.Reduced.{behind, missing, missing_part};
 
-use crate::over_rows::{over_rows, reduced};
+use crate::some_rows::{over_rows, reduced};
 use bag_algebra::{Expr, JoinKind, Query};
 use perm_values::{Copyable, List, NoMemory, both};
 use std::alloc::Global;

@@ -2,7 +2,7 @@ use Rattle.std.proofs.Common.{ap, ◌∙◌}
 use Rattle.std.specs.List.{list_all}
 use Rattle.bag_algebra.proofs.Truths.{second-decides, first-decides}
 use Rattle.reduced_queries.specs.Splitting.{splits}
-use Rattle.reduced_queries.proofs.Splitting.{splits-node}
+use Rattle.reduced_queries.proofs.OnOneSide.{splits-node}
 use Rattle.reduced_queries.proofs.splitting.+splits.Goals as goal
 
 pub splits-returns-then-own_splits : goal.splits-returns-then-own_splits

@@ -1,5 +1,5 @@
 use Rattle.reduced_queries.proofs.OverRowsMade.{base-answer, filter-answer, project-answer, join-answer, union-answer, distinct-answer, copy-answer, made-Apply, made-Intersect, made-Except, made-Aggregate, made-Limit, made-Prov}
-use Rattle.reduced_queries.proofs.over_rows.+over_rows.Goals as goal
+use Rattle.reduced_queries.proofs.some_rows.+over_rows.Goals as goal
 
 pub returns-in_ok-input-in-Base : goal.returns-in_ok-input-in-Base
 returns-in_ok-input-in-Base t c =
