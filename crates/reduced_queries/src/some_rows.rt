@@ -39,7 +39,10 @@ pub fn over_rows(alloc: Global, query: &Query, id: u64, condition: &Expr) -> Res
             condition: test,
             ..
         } => {
-            let (input, test) = both(over_rows(alloc, input.get(), id, condition), test.copy(alloc))?;
+            let (input, test) = both(
+                over_rows(alloc, input.get(), id, condition),
+                test.copy(alloc),
+            )?;
             selection(alloc, input, test)
         }
         Query::Project { input, items, .. } => {
@@ -85,12 +88,7 @@ pub fn over_rows(alloc: Global, query: &Query, id: u64, condition: &Expr) -> Res
 }
 
 /// What a source is over: of the table of the identity its rows on which the condition is true.
-fn source_rows(
-    alloc: Global,
-    input: &Query,
-    id: u64,
-    condition: &Expr,
-) -> Result<Query, NoMemory>
+fn source_rows(alloc: Global, input: &Query, id: u64, condition: &Expr) -> Result<Query, NoMemory>
     ensures { IfOk result (λ p. (other : ℕ) (kinds : List Kind) →
         input.now ≡ Table other kinds → p ≡ rows_of id condition.now other kinds) }
 {
