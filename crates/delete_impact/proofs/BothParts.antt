@@ -131,7 +131,7 @@ module _ (all : Bool) where
   unite o p = both_then o p (λ us vs. Good (union_of all us vs))
 
   united-joined : (o p : Outcome Bag) → Below (unite o p) (joined_lists o p)
-  united-joined (Good us) (Good vs) = below_good (record {
+  united-joined (Good us) (Good vs) = below_good {vs = us ++ vs} (record {
     within = λ t h. elim (from-union all t us vs h) [ inl l ↦ in-append_left t us vs l | inr m ↦ in-append_right t us vs m ];
   })
   united-joined (Good us) (Bad h) = below_worse (included-refl h)

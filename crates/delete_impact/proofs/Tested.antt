@@ -7,7 +7,7 @@ use Rattle.bag_algebra.proofs.Members.{IsIn}
 use Rattle.bag_algebra.specs.Bags.{Row, Bag}
 use Rattle.bag_algebra.specs.Expressions.{has_truth}
 use Rattle.bag_algebra.specs.Means.{holds_of, kept}
-use Rattle.bag_algebra.specs.Outcome.{Outcome, Good, mapped, both, gather}
+use Rattle.bag_algebra.specs.Outcome.{Outcome, Good, Bad, mapped, both, gather}
 use Rattle.query_laws.proofs.Filtered.{put_before}
 
 pub holds-boolean : (b : Bool) → holds_of (Boolean b) ≡ b
