@@ -24,7 +24,7 @@ use Rattle.bag_algebra.specs.declared.query.Query.TheVariants.{Table, Single}
 use Rattle.contribution.proofs.Agreement.{joined_lists, union-comm, each-gather}
 use Rattle.contribution.proofs.BagMembers.{from-once, in-once, from-union}
 use Rattle.contribution.proofs.SetMembers.{in-union}
-use Rattle.contribution.proofs.SetsOfRows.{Below, below_good, below_bad, below_worse, below-trans, below-left, below-right, below-joined, below-gather, gather-below, included-refl, included-trans, included-union, included-left, included-right, SetAgree, set_bad, set_agree-refl, set_agree-below, set_agree-of_below}
+use Rattle.contribution.proofs.SetsOfRows.{Below, below_good, below_worse, below-trans, below-left, below-right, below-joined, below-gather, gather-below, included-refl, included-trans, included-union, included-left, included-right, SetAgree, set_bad, set_agree-refl, set_agree-below, set_agree-of_below}
 use Rattle.contribution.proofs.SharedMembers.{Within}
 use Rattle.contribution.proofs.TablesRead.{denote-equal_tables}
 use Rattle.monotone_queries.specs.Monotone.{is_monotone, is_relation, is_whole_table}
