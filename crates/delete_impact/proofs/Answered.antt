@@ -1,5 +1,5 @@
 -- The query that answers is what it is to be.
-use Rattle.std.proofs.Common.{◌≡◌, ℕ, Bool, true, false, cond, not, List, [], ◌∷◌, filter, Option, Some, None, Decides, Contains, IsTrue, Result, Ok, Err, IfOk, refl, sym, ap, ◌∙◌, subst, append-nil}
+use Rattle.std.proofs.Common.{◌≡◌, ◌⊎◌, inl, inr, ℕ, Bool, true, false, cond, not, ◌&&◌, List, [], ◌∷◌, ◌++◌, filter, Option, Some, None, Decides, Contains, IsTrue, Result, Ok, Err, IfOk, refl, sym, ap, ◌∙◌, subst, subst₂, append-nil}
 use mathlib.Core.Bool.{true≢false}
 use Rattle.perm_values.specs.declared.kind.Kind.{Kind}
 use Rattle.perm_values.specs.declared.kind.Kind.TheVariants.{Boolean}
@@ -7,7 +7,7 @@ use Rattle.perm_values.specs.declared.no_memory.NoMemory.{NoMemory}
 use Rattle.perm_values.specs.declared.value.Value.{Value}
 use Rattle.bag_algebra.proofs.BagLaws.{member-filter}
 use Rattle.bag_algebra.proofs.Closing.{query_within}
-use Rattle.bag_algebra.proofs.Members.{IsIn}
+use Rattle.bag_algebra.proofs.Members.{IsIn, from-append, in-member, member-in}
 use Rattle.bag_algebra.proofs.NeverBad.{good-value}
 use Rattle.bag_algebra.proofs.Outcomes.{same_good}
 use Rattle.bag_algebra.proofs.TablesRead.{each_table-told, each_table-from_told, reads_among-itself}
@@ -26,30 +26,35 @@ use Rattle.bag_algebra.specs.declared.expr.Expr.{Expr}
 use Rattle.bag_algebra.specs.declared.query.Query.{Query}
 use Rattle.bag_algebra.specs.declared.query.Query.TheVariants.{Union}
 use Rattle.contribution.proofs.NodeQueries.{plain-chosen, formed-chosen}
-use Rattle.contribution.proofs.SetsOfRows.{Below}
+use Rattle.contribution.proofs.Agreement.{joined_lists}
+use Rattle.contribution.proofs.SetsOfRows.{Below, below_good}
+use Rattle.contribution.proofs.SharedMembers.{Within}
 use Rattle.contribution.specs.Conjunctions.{always}
 use Rattle.monotone_queries.specs.Monotone.{is_monotone}
 use Rattle.query_laws.proofs.Once.{holds_once-once}
 use Rattle.query_laws.specs.Holding.{HoldsOnce}
-use Rattle.impact_laws.specs.Doomed.{doomed_on, after_deletion, places_over}
+use Rattle.impact_laws.specs.Doomed.{doomed_on, is_doomed, after_deletion, places_over}
 use Rattle.impact_laws.specs.Vanishing.{Vanishes}
+use Rattle.impact_laws.proofs.Below.{below-within}
 use Rattle.impact_laws.proofs.KeptQueries.{KeptRows}
 use Rattle.impact_laws.proofs.VanishingRows.{kept-of}
-use Rattle.delete_impact.specs.Answering.{adds_none, condition_or_true, looked_through, never, no_row_of, vanishing, with_faults}
+use Rattle.delete_impact.specs.Answering.{adds_none, condition_or_true, looked_through, lost, never, no_row_of, vanishing, with_faults}
 use Rattle.reduced_queries.specs.Reads.{Unread, IsRead, first_kinds}
 use Rattle.reduced_queries.specs.Hiding.{hides_none}
-use Rattle.reduced_queries.specs.Reduced.{behind, missing, reduced}
+use Rattle.reduced_queries.specs.Reduced.{behind, missing, missing_part, over_rows, reduced}
+use Rattle.reduced_queries.specs.Splitting.{splits}
 use Rattle.delete_impact.specs.Impact.{IsImpact}
 use Rattle.monotone_queries.specs.Conditions.{ConditionFits}
+use Rattle.delete_impact.proofs.BothParts.{both-bad, parts-above}
 use Rattle.delete_impact.proofs.Conditions.{each-item, emptied}
-use Rattle.delete_impact.proofs.FewerFaults.{bad-above, fewer-below, fewer-after}
+use Rattle.delete_impact.proofs.FewerFaults.{bad-above, fewer-below, fewer-part}
 use Rattle.delete_impact.proofs.LookedThrough.{meaning-no_row, good-both, bad-both}
 use Rattle.delete_impact.proofs.WithFaults.{either, plain-with_faults, tables-with_faults, formed-with_faults, meaning-with_faults}
 use Rattle.reduced_queries.proofs.BehindRows.{meaning-behind, kinds-behind, plain-behind, tables-behind, formed-behind}
-use Rattle.reduced_queries.proofs.MissingRows.{meaning-missing, kinds-missing, plain-missing, tables-missing, formed-missing}
+use Rattle.reduced_queries.proofs.MissingRows.{meaning-missing, meaning-missing_part, kinds-missing, kinds-missing_part, plain-missing, plain-missing_part, tables-missing, tables-missing_part, formed-missing, formed-missing_part}
 use Rattle.reduced_queries.proofs.ReadKinds.{none-unread, found-contained, found-is_read}
-use Rattle.reduced_queries.proofs.ReducedForms.{plain-monotone, OnTables}
-use Rattle.delete_impact.proofs.ReducedRows.{reduced-rows}
+use Rattle.reduced_queries.proofs.OverRowsForms.{plain-monotone, OnTables}
+use Rattle.delete_impact.proofs.ReducedRows.{going-rows, reduced-rows, part_of}
 
 -- ---- where the table isn't read
 
@@ -83,6 +88,9 @@ good-of : (o : Outcome Value) → is_good o ≡ true → (v : Value) × (o ≡ G
 good-of (Good v) e = (v, refl)
 good-of (Bad faults) e = absurd (true≢false (sym e))
 
+good-under : {o : Outcome Bag} (us : Bag) → Below o (Good us) → (vs : Bag) × (o ≡ Good vs) × Within vs us
+good-under us (below_good {us = vs} s) = (vs, refl, s)
+
 same-looked : (condition : Option Expr) (us : Bag) → each (doomed_on (Some (condition_or_true condition))) us ≡ each (doomed_on condition) us
 same-looked None us = refl
 same-looked (Some condition) us = refl
@@ -104,12 +112,18 @@ module _ (q : Query) (id : ℕ) (given : Option Expr) (kinds : List Kind) (m : i
   condition-formed : HasKind (kinds ∷ []) [] test Boolean
   condition-formed = each_table-told (λ other own. other ≡ id → HasKind (own ∷ []) [] test Boolean) q on_tables (record { id = id; kinds = kinds }) there refl
 
+  abbrev going : Query
+  going = over_rows id test q
+
   abbrev gap : Query
   gap = missing id test q
 
-  -- what EXCEPT alone and EXCEPT behind the query have in common
-  both-ways : (P : Query → Type 0) → P gap → P (behind rows gap) → P (vanishing q id kinds test)
-  both-ways P h k = either P (adds_none test q) gap (behind rows gap) h k
+  abbrev gap_part : Query
+  gap_part = missing_part id test q
+
+  -- what holds of EXCEPT, over the rows that go and over all, and of EXCEPT behind the query
+  all_ways : (P : Query → Type 0) → P gap_part → P gap → P (behind rows gap) → P (vanishing q id kinds test)
+  all_ways P g h k = either P (adds_none test q) (lost id test q) (behind rows gap) (either P (splits id q) gap_part gap g h) k
 
   -- ---- forms
 
@@ -117,14 +131,17 @@ module _ (q : Query) (id : ℕ) (given : Option Expr) (kinds : List Kind) (m : i
   formed-gap = formed-missing id test q on_tables f
 
   formed-answer : WellFormed [] (vanishing q id kinds test)
-  formed-answer = both-ways (WellFormed []) formed-gap (formed-behind rows gap (formed-with_faults q id kinds test f condition-formed) formed-gap)
+  formed-answer =
+      all_ways (WellFormed []) (formed-missing_part id test q on_tables f) formed-gap
+      (formed-behind rows gap (formed-with_faults q id kinds test f condition-formed) formed-gap)
 
   kinds-answer : kinds_of (vanishing q id kinds test) ≡ kinds_of q
-  kinds-answer = both-ways (λ r. kinds_of r ≡ kinds_of q) (kinds-missing id test q) (kinds-behind rows gap ∙ kinds-missing id test q)
+  kinds-answer = all_ways (λ r. kinds_of r ≡ kinds_of q) (kinds-missing_part id test q) (kinds-missing id test q) (kinds-behind rows gap ∙ kinds-missing id test q)
 
   plain-answer : is_plain (vanishing q id kinds test) ≡ true
   plain-answer =
-      both-ways (λ r. is_plain r ≡ true) (plain-missing id test q m) (plain-behind rows gap (plain-with_faults q id kinds test (plain-monotone q m)) (plain-missing id test q m))
+      all_ways (λ r. is_plain r ≡ true) (plain-missing_part id test q m) (plain-missing id test q m)
+      (plain-behind rows gap (plain-with_faults q id kinds test (plain-monotone q m)) (plain-missing id test q m))
 
   abbrev among : ℕ → List Kind → Type 0
   among other own = Contains (tables_read q) (record { id = other; kinds = own })
@@ -132,7 +149,8 @@ module _ (q : Query) (id : ℕ) (given : Option Expr) (kinds : List Kind) (m : i
   tables-answer : EachTable among (vanishing q id kinds test)
   tables-answer =
       let of_gap = tables-missing id test q among (reads_among-itself q) in
-      both-ways (EachTable among) of_gap (tables-behind rows gap among (tables-with_faults q id kinds test among (reads_among-itself q) there) of_gap)
+      all_ways (EachTable among) (tables-missing_part id test q among (reads_among-itself q)) of_gap
+      (tables-behind rows gap among (tables-with_faults q id kinds test among (reads_among-itself q) there) of_gap)
 
   -- ---- rows
 
@@ -144,22 +162,50 @@ module _ (q : Query) (id : ℕ) (given : Option Expr) (kinds : List Kind) (m : i
       free : faultless test ≡ true
       free = left-true (faultless test) (hides_none q) calm
 
+      shown : hides_none q ≡ true
+      shown = right-true (faultless test) (hides_none q) calm
+
+      test-good : (u : Row) → IsIn u (db id) → (v : Value) × (value test u [] [] ≡ Good v)
+      test-good u h = good-of (value test u [] []) (good-value test free u [] [])
+
+      part-below : (part : Query) (passes : Row → Bool) → meaning part db [] ≡ meaning q (part_of id passes db) [] → Below (meaning part db []) (meaning q db [])
+      part-below part passes is =
+          subst (λ o. Below o (meaning q db [])) (sym is) (fewer-below db (part_of id passes db) (fewer-part id passes db) q m shown)
+
       others-below : Below (meaning others db []) (meaning q db [])
-      others-below =
-          subst (λ o. Below o (meaning q db []))
-          (sym (reduced-rows id test db (λ u h. good-of (value test u [] []) (good-value test free u [] [])) q m))
-          (fewer-below db (after_deletion id (Some test) db) (fewer-after id (Some test) db) q m (right-true (faultless test) (hides_none q) calm))
+      others-below = part-below others (λ row. not (is_doomed (Some test) row)) (reduced-rows id test db test-good q m)
 
-      calm-faults : (faults : Faults) → meaning rows db [] ≡ Bad faults → meaning gap db [] ≡ Bad faults
-      calm-faults faults e =
-          let bad : meaning q db [] ≡ Bad faults =
-          sym (ap (λ b. meaning (cond b q (Union true q (looked_through (kinds_of q) id kinds test))) db []) free) ∙ e in
-          meaning-missing id test q db
-          ∙ ap (λ o. both (except_of false) o (meaning others db [])) bad
-          ∙ bad-above (except_of false) (meaning others db []) faults (subst (Below (meaning others db [])) bad others-below)
+      going-below : Below (meaning going db []) (meaning q db [])
+      going-below = part-below going (is_doomed (Some test)) (going-rows id test db test-good q m)
 
-    faults-by : (faults : Faults) → meaning rows db [] ≡ Bad faults → (calm : Bool) → adds_none test q ≡ calm → meaning (cond calm gap (behind rows gap)) db [] ≡ Bad faults
-    faults-by faults e true is = calm-faults is faults e
+      both-above : splits id q ≡ true → Below (meaning q db []) (joined_lists (meaning going db []) (meaning others db []))
+      both-above apart =
+          subst₂ (λ o p. Below (meaning q db []) (joined_lists o p)) (sym (going-rows id test db test-good q m)) (sym (reduced-rows id test db test-good q m))
+          (parts-above id (is_doomed (Some test)) db q m shown apart)
+
+      module _ (faults : Faults) (e : meaning rows db [] ≡ Bad faults) where
+        bad : meaning q db [] ≡ Bad faults
+        bad = sym (ap (λ b. meaning (cond b q (Union true q (looked_through (kinds_of q) id kinds test))) db []) free) ∙ e
+
+        calm-faults : meaning gap db [] ≡ Bad faults
+        calm-faults =
+            meaning-missing id test q db
+            ∙ ap (λ o. both (except_of false) o (meaning others db [])) bad
+            ∙ bad-above (except_of false) (meaning others db []) faults (subst (Below (meaning others db [])) bad others-below)
+
+        part-faults : splits id q ≡ true → meaning gap_part db [] ≡ Bad faults
+        part-faults apart =
+            meaning-missing_part id test q db
+            ∙ both-bad (except_of false) (meaning going db []) (meaning others db []) faults (subst (Below (meaning going db [])) bad going-below)
+            (subst (Below (meaning others db [])) bad others-below) (subst (λ o. Below o (joined_lists (meaning going db []) (meaning others db []))) bad (both-above apart))
+
+    lost-faults : (faults : Faults) → meaning rows db [] ≡ Bad faults → adds_none test q ≡ true → (apart : Bool) → splits id q ≡ apart → meaning (cond apart gap_part gap) db [] ≡ Bad faults
+    lost-faults faults e calm true is = part-faults calm faults e is
+    lost-faults faults e calm false is = calm-faults calm faults e
+
+    faults-by : (faults : Faults) → meaning rows db [] ≡ Bad faults → (calm : Bool) → adds_none test q ≡ calm →
+        meaning (cond calm (lost id test q) (behind rows gap)) db [] ≡ Bad faults
+    faults-by faults e true is = lost-faults faults e is (splits id q) refl
     faults-by faults e false is = meaning-answer ∙ ap (λ o. and_then o (λ us. meaning gap db [])) e
 
   module _ (db : Database) (fits : TablesFit db q) where
@@ -180,37 +226,62 @@ module _ (q : Query) (id : ℕ) (given : Option Expr) (kinds : List Kind) (m : i
       others-good : meaning others db [] ≡ Good left.rows
       others-good = reduced-rows id test db good-on_rows q m ∙ ap (λ rest. meaning q rest []) (same-deletion id given db) ∙ left.good
 
-      abbrev gone : Bag
-      gone = filter (λ u. not (member u left.rows)) us
+      abbrev Answer : Query → Type 0
+      Answer p = (ts : Bag) × (meaning p db [] ≡ Good ts) × HoldsOnce (Vanishes q id given db) ts
 
-      gap-good : meaning gap db [] ≡ Good (once gone)
-      gap-good = meaning-missing id test q db ∙ (λ i. both (except_of false) (good i) (others-good i))
+      -- what isn't left of some rows of the query, among which are all that aren't left
+      module _ (some : Bag) (within : (t : Row) → IsIn t some → IsIn t us) (back : (t : Row) → IsIn t us → IsIn t some ⊎ IsIn t left.rows) where
+        abbrev gone : Bag
+        gone = filter (λ u. not (member u left.rows)) some
 
-      answer-good : meaning (vanishing q id kinds test) db [] ≡ Good (once gone)
-      answer-good =
-          both-ways (λ r. meaning r db [] ≡ Good (once gone)) gap-good (meaning-answer db ∙ ap (λ o. and_then o (λ bag. meaning gap db [])) rows-good ∙ gap-good)
+        decided : (t : Row) → Decides (member t gone) (Vanishes q id given db t)
+        decided t = (
+          λ e.
+              let parts = sym (member-filter t (λ u. not (member u left.rows)) some) ∙ e in
+              let here = left-true (member t some) (not (member t left.rows)) parts in
+              let away = right-true (member t some) (not (member t left.rows)) parts in
+              record {
+                before = record { bag = us; good = good; row = in-member t us (within t (member-in t some here)) };
+                after = λ a. true≢false (sym away ∙ ap not (subst (λ bag. IsTrue (member t bag)) (same_good _ _ (sym a.good ∙ left.good)) a.row));
+              },
+          λ v. member-filter t (λ u. not (member u left.rows)) some ∙ away v (member t left.rows) refl,
+        ) where
+          away : Vanishes q id given db t → (b : Bool) → member t left.rows ≡ b → (member t some && not (member t left.rows)) ≡ true
+          away v true e = absurd (v.after (record { bag = left.rows; good = left.good; row = e }))
+          away v false e = both-true (member t some) (not (member t left.rows)) (in-member t some (among_some (back t here))) (ap not e) where
+            here : IsIn t us
+            here = member-in t us (subst (λ bag. IsTrue (member t bag)) (same_good _ _ (sym v.before.good ∙ good)) v.before.row)
 
-      decided : (t : Row) → Decides (member t gone) (Vanishes q id given db t)
-      decided t = (
-        λ e.
-            let parts = sym (member-filter t (λ u. not (member u left.rows)) us) ∙ e in
-            let here = left-true (member t us) (not (member t left.rows)) parts in
-            let lost = right-true (member t us) (not (member t left.rows)) parts in
-            record {
-              before = record { bag = us; good = good; row = here };
-              after = λ a. true≢false (sym lost ∙ ap not (subst (λ bag. IsTrue (member t bag)) (same_good _ _ (sym a.good ∙ left.good)) a.row));
-            },
-        λ v.
-            member-filter t (λ u. not (member u left.rows)) us
-            ∙ both-true (member t us) (not (member t left.rows)) (subst (λ bag. IsTrue (member t bag)) (same_good _ _ (sym v.before.good ∙ good)) v.before.row)
-            (away v (member t left.rows) refl),
-      ) where
-        away : Vanishes q id given db t → (b : Bool) → member t left.rows ≡ b → not b ≡ true
-        away v true e = absurd (v.after (record { bag = left.rows; good = left.good; row = e }))
-        away v false e = refl
+            among_some : IsIn t some ⊎ IsIn t left.rows → IsIn t some
+            among_some (inl h) = h
+            among_some (inr h) = absurd (true≢false (sym (in-member t left.rows h) ∙ e))
 
-      answer-once : HoldsOnce (Vanishes q id given db) (once gone)
-      answer-once = holds_once-once (Vanishes q id given db) gone decided
+        answer-once : HoldsOnce (Vanishes q id given db) (once gone)
+        answer-once = holds_once-once (Vanishes q id given db) gone decided
+
+        answer-except : (p : Query) (o : Outcome Bag) → meaning p db [] ≡ both (except_of false) o (meaning others db []) → o ≡ Good some → Answer p
+        answer-except p o is e = (once gone, is ∙ (λ i. both (except_of false) (e i) (others-good i)), answer-once)
+
+      gap-answer : Answer gap
+      gap-answer = answer-except us (λ t h. h) (λ t h. inl h) gap (meaning q db []) (meaning-missing id test q db) good
+
+      behind-answer : Answer (behind rows gap)
+      behind-answer = (gap-answer.0, meaning-answer db ∙ ap (λ o. and_then o (λ bag. meaning gap db [])) rows-good ∙ gap-answer.1, gap-answer.2)
+
+      part-answer : adds_none test q ≡ true → splits id q ≡ true → Answer gap_part
+      part-answer calm apart =
+          let under = good-under us (subst (Below (meaning going db [])) good (going-below db calm)) in
+          let above : Within us (under.0 ++ left.rows) =
+          below-within (subst₂ Below good (λ i. joined_lists (under.1 i) (others-good i)) (both-above db calm apart)) in
+          answer-except under.0 under.2.within (λ t h. from-append t under.0 left.rows (above.within t h)) gap_part (meaning going db []) (meaning-missing_part id test q db) under.1
+
+      lost-answer : adds_none test q ≡ true → (apart : Bool) → splits id q ≡ apart → Answer (cond apart gap_part gap)
+      lost-answer calm true is = part-answer calm is
+      lost-answer calm false is = gap-answer
+
+      answer-by : (calm : Bool) → adds_none test q ≡ calm → Answer (cond calm (lost id test q) (behind rows gap))
+      answer-by true is = lost-answer is (splits id q) refl
+      answer-by false is = behind-answer
 
   pub read-impact : IsRead id q → IsImpact q id given (vanishing q id kinds test)
   read-impact read = record {
@@ -223,7 +294,7 @@ module _ (q : Query) (id : ℕ) (given : Option Expr) (kinds : List Kind) (m : i
     own_faults = λ db faults fits unread bad. absurd (read unread);
     vanishing = λ db us fits read good.
         let parts = good-both (meaning q db []) (each (doomed_on given) (db id)) us good in
-        (once (gone db fits us parts.0 parts.1 parts.2), answer-good db fits us parts.0 parts.1 parts.2, answer-once db fits us parts.0 parts.1 parts.2);
+        answer-by db fits us parts.0 parts.1 parts.2 (adds_none test q) refl;
     faults = λ db faults fits read bad.
         faults-by db faults (meaning-rows db fits ∙ bad-both (meaning q db []) (each (doomed_on given) (db id)) faults bad) (adds_none test q) refl;
   }

@@ -13,7 +13,7 @@ use Rattle.bag_algebra.specs.declared.expr.Expr.{Expr}
 use Rattle.bag_algebra.specs.declared.expr.Expr.TheVariants.{IsTruth}
 use Rattle.impact_laws.specs.Doomed.{is_doomed}
 use Rattle.reduced_queries.specs.Reduced.{not_true}
-use Rattle.delete_impact.proofs.Tested.{is_false}
+use Rattle.delete_impact.proofs.Tested.{holds-boolean, is_false}
 
 -- ---- faults alone
 
@@ -58,12 +58,17 @@ module _ (f : Row → Outcome Value) where
 
 -- ---- the condition of a deletion
 
--- a row stays where the condition isn't true on it
-pub not_true-value : (condition : Expr) (u : Row) (v : Value) → value condition u [] [] ≡ Good v →
-    value (not_true condition) u [] [] ≡ Good (Boolean (not (is_doomed (Some condition) u)))
-not_true-value condition u v e =
-    value-IsTruth u [] [] False (IsTruth True condition)
-    ∙ ap (mapped (λ w. Boolean (has_truth False w))) (value-IsTruth u [] [] True condition)
-    ∙ ap (λ o. mapped (λ w. Boolean (has_truth False w)) (mapped (λ w. Boolean (has_truth True w)) o)) e
-    ∙ ap (λ b. Good (Boolean b)) (is_false (holds_of v))
-    ∙ ap (λ o. Good (Boolean (not (is_met o)))) (sym e)
+module _ (condition : Expr) (u : Row) (v : Value) (good : value condition u [] [] ≡ Good v) where
+  -- a row goes where the condition is true on it
+  pub doomed-tested : mapped holds_of (value condition u [] []) ≡ Good (is_doomed (Some condition) u)
+  doomed-tested = ap (mapped holds_of) good ∙ ap (λ o. Good (is_met o)) (sym good)
+
+  -- and stays where it isn't
+  pub spared-tested : mapped holds_of (value (not_true condition) u [] []) ≡ Good (not (is_doomed (Some condition) u))
+  spared-tested =
+      ap (mapped holds_of)
+      (value-IsTruth u [] [] False (IsTruth True condition)
+      ∙ ap (mapped (λ w. Boolean (has_truth False w))) (value-IsTruth u [] [] True condition)
+      ∙ ap (λ o. mapped (λ w. Boolean (has_truth False w)) (mapped (λ w. Boolean (has_truth True w)) o)) good)
+      ∙ ap Good (holds-boolean (has_truth False (Boolean (holds_of v))) ∙ is_false (holds_of v))
+      ∙ ap (λ o. Good (not (is_met o))) (sym good)

@@ -1,5 +1,5 @@
 -- Over fewer rows a monotone query in which no fault hides another has no further row and meets no further fault.
-use Rattle.std.proofs.Common.{◌≡◌, ℕ, zero, suc, Bool, true, false, cond, not, ◌==◌, ◌&&◌, ◌||◌, List, [], ◌++◌, filter, Option, refl, sym, ap, ◌∙◌, subst, subst₂}
+use Rattle.std.proofs.Common.{◌≡◌, ℕ, zero, suc, Bool, true, false, cond, ◌==◌, ◌&&◌, ◌||◌, List, [], ◌++◌, filter, refl, sym, ap, ◌∙◌, subst, subst₂}
 use mathlib.Core.Bool.{true≢false}
 use Rattle.perm_values.specs.declared.kind.Kind.{Kind}
 use Rattle.bag_algebra.proofs.Members.{from-filter}
@@ -26,10 +26,9 @@ use Rattle.contribution.proofs.SetsOfRows.{Below, below_good, below_bad, below_w
 use Rattle.contribution.proofs.SharedMembers.{Within}
 use Rattle.monotone_queries.specs.Monotone.{is_monotone, is_relation, is_whole_table}
 use Rattle.monotone_queries.proofs.Nodes.{whole_table-is}
-use Rattle.impact_laws.specs.Doomed.{is_doomed, after_deletion}
 use Rattle.impact_laws.proofs.Below.{gather-fewer, each-fewer, pairs-fewer, mapped-fewer, once-fewer, union-fewer, unpadded-fewer}
 use Rattle.reduced_queries.specs.Hiding.{hides_none}
-use Rattle.delete_impact.proofs.ReducedRows.{none-denoted, pairs, filter-alone, project-alone, join-alone}
+use Rattle.delete_impact.proofs.ReducedRows.{none-denoted, pairs, filter-alone, project-alone, join-alone, part_of}
 
 -- ---- outcomes
 
@@ -38,13 +37,13 @@ good_under (Good us) g e = below_bad us g
 good_under (Bad f) g e = absurd (true≢false (sym e))
 
 -- where the greater outcome is bad, what is made of any rows is good
-then-below : (f : Bag → Outcome Bag) → ((us vs : Bag) → Within us vs → Below (f us) (f vs)) → (o p : Outcome Bag) →
+pub then-below : (f : Bag → Outcome Bag) → ((us vs : Bag) → Within us vs → Below (f us) (f vs)) → (o p : Outcome Bag) →
     ((is_good p ≡ true → ⊥) → (us : Bag) → is_good (f us) ≡ true) → Below o p → Below (and_then o f) (and_then p f)
 then-below f next _ _ calm (below_good {us} {vs} s) = next us vs s
 then-below f next _ _ calm (below_bad us g) = good_under (f us) g (calm (λ e. true≢false (sym e)) us)
 then-below f next _ _ calm (below_worse s) = below_worse s
 
-both-below : (f : Bag → Bag → Outcome Bag) → ((us vs xs ys : Bag) → Within us vs → Within xs ys → Below (f us xs) (f vs ys)) → (o p n q : Outcome Bag) →
+pub both-below : (f : Bag → Bag → Outcome Bag) → ((us vs xs ys : Bag) → Within us vs → Within xs ys → Below (f us xs) (f vs ys)) → (o p n q : Outcome Bag) →
     ((is_good p ≡ true → is_good q ≡ true → ⊥) → (us xs : Bag) → is_good (f us xs) ≡ true) → Below o p → Below n q → Below (both_then o n f) (both_then p q f)
 both-below f next _ _ _ _ calm (below_good {us} {vs} s) (below_good {us = xs} {vs = ys} r) = next us vs xs ys s r
 both-below f next _ _ _ _ calm (below_good {us} {vs} s) (below_bad xs h) = good_under (f us xs) h (calm (λ d e. true≢false (sym e)) us xs)
@@ -68,18 +67,18 @@ pub bad-above : (f : Bag → Bag → Bag) (o : Outcome Bag) (g : Faults) → Bel
 bad-above f _ g (below_bad us h) = refl
 bad-above f _ g (below_worse {f = k} s) = ap Bad (union-comm g k ∙ s.whole)
 
-calm-first : (a b : Bool) → (a || b) ≡ true → (b ≡ true → ⊥) → a ≡ true
+pub calm-first : (a b : Bool) → (a || b) ≡ true → (b ≡ true → ⊥) → a ≡ true
 calm-first true b e bad = refl
 calm-first false b e bad = absurd (bad e)
 
 -- ---- what can meet no fault, on any rows
 
-good-kept : (test : Expr) → faultless test ≡ true → (us : Bag) → is_good (gather (kept (condition_on test [] means.no_subs)) us) ≡ true
+pub good-kept : (test : Expr) → faultless test ≡ true → (us : Bag) → is_good (gather (kept (condition_on test [] means.no_subs)) us) ≡ true
 good-kept test free us =
     ap is_good (sym (meaning-chosen (Table 0 []) test (λ id. us) []))
     ∙ good-query (FilterOf (Table 0 []) test [] end_of-Sublink) (and_true (faultless test) ∙ free) (λ id. us) []
 
-good-items : (items : List Item) → items_faultless items ≡ true → (us : Bag) → is_good (each (items_on items [] means.no_subs) us) ≡ true
+pub good-items : (items : List Item) → items_faultless items ≡ true → (us : Bag) → is_good (each (items_on items [] means.no_subs) us) ≡ true
 good-items items free us =
     ap is_good (sym (meaning-projected (Table 0 []) items (λ id. us) []))
     ∙ good-query (ProjectOf (Table 0 []) items [] end_of-Sublink) (and_true (items_faultless items) ∙ free) (λ id. us) []
@@ -88,24 +87,24 @@ abbrev sides : Bag → Bag → Database
 sides us vs zero = us
 sides us vs (suc id) = vs
 
-good-pairs : (test : Expr) → faultless test ≡ true → (us vs : Bag) → is_good (pairs test us vs) ≡ true
+pub good-pairs : (test : Expr) → faultless test ≡ true → (us vs : Bag) → is_good (pairs test us vs) ≡ true
 good-pairs test free us vs =
     ap is_good (sym (meaning-pairs Inner (Table 0 []) (Table 1 []) test (sides us vs) []))
     ∙ good-query (JoinOf Inner (Table 0 []) (Table 1 []) test [] end_of-Sublink) (and_true (faultless test) ∙ free) (sides us vs) []
 
 -- ---- queries
 
+pub united : (all : Bool) (left right : Query) (rows : Database) → meaning (UnionOf all left right) rows [] ≡ both_then (meaning left rows []) (meaning right rows []) (λ us vs. Good (union_of all us vs))
+united all left right rows = rows-with_lists _ _ ∙ sym (both-is (union_of all) (meaning left rows []) (meaning right rows []))
+
+pub each_once : (input : Query) (rows : Database) → meaning (DistinctOf input) rows [] ≡ mapped once (meaning input rows [])
+each_once input rows = rows-with_lists _ _
+
 module _ (db later : Database) (fewer : (id : ℕ) → Within (later id) (db id)) where
   source-below : (input : Query) (places : List ℕ) (label : Label) → ((id : ℕ) × (kinds : List Kind) × (input ≡ Table id kinds)) →
       Below (meaning (BaseOf input places label) later []) (meaning (BaseOf input places label) db [])
   source-below input places label table =
       subst (λ source. Below (meaning (BaseOf source places label) later []) (meaning (BaseOf source places label) db [])) (sym table.2) (below_good (fewer table.0))
-
-  united : (all : Bool) (left right : Query) (rows : Database) → meaning (UnionOf all left right) rows [] ≡ both_then (meaning left rows []) (meaning right rows []) (λ us vs. Good (union_of all us vs))
-  united all left right rows = rows-with_lists _ _ ∙ sym (both-is (union_of all) (meaning left rows []) (meaning right rows []))
-
-  each_once : (input : Query) (rows : Database) → meaning (DistinctOf input) rows [] ≡ mapped once (meaning input rows [])
-  each_once input rows = rows-with_lists _ _
 
   pub fewer-below : (q : Query) → is_monotone q ≡ true → hides_none q ≡ true → Below (meaning q later []) (meaning q db [])
   fewer-below (Table id kinds) m h = absurd (true≢false (sym m))
@@ -158,11 +157,11 @@ module _ (db later : Database) (fewer : (id : ℕ) → Within (later id) (db id)
   fewer-below (LimitOf input keys count) m h = absurd (true≢false (sym m))
   fewer-below (ProvOf input) m h = absurd (true≢false (sym m))
 
--- ---- after a deletion
+-- ---- over a part of a table
 
-where-fewer : (over : Bool) (stays : Row → Bool) (us : Bag) → Within (cond over (filter stays us) us) us
-where-fewer true stays us = record { within = λ t h. (from-filter stays t us h).0 }
-where-fewer false stays us = record { within = λ t h. h }
+where-fewer : (over : Bool) (passes : Row → Bool) (us : Bag) → Within (cond over (filter passes us) us) us
+where-fewer true passes us = record { within = λ t h. (from-filter passes t us h).0 }
+where-fewer false passes us = record { within = λ t h. h }
 
-pub fewer-after : (id : ℕ) (condition : Option Expr) (db : Database) (other : ℕ) → Within (after_deletion id condition db other) (db other)
-fewer-after id condition db other = where-fewer (other == id) (λ row. not (is_doomed condition row)) (db other)
+pub fewer-part : (id : ℕ) (passes : Row → Bool) (db : Database) (other : ℕ) → Within (part_of id passes db other) (db other)
+fewer-part id passes db other = where-fewer (other == id) passes (db other)

@@ -1,4 +1,5 @@
 mod Answered
+mod BothParts
 mod Conditions
 mod FewerFaults
 mod LookedThrough

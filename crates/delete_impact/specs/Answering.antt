@@ -1,4 +1,5 @@
--- The query that answers, of the query that is asked about: its rows that the query over what is left of the table doesn't have.
+-- The query that answers, of the query that is asked about: its rows that the query over what is left of the table doesn't have. They
+-- are looked for among its rows over the rows that go, where it has no others that go.
 use Rattle.std.specs.Prelude.{ℕ, Bool, true, cond, ◌&&◌, List, [], map, Option, Some, None}
 use Rattle.perm_values.specs.declared.kind.Kind.{Kind}
 use Rattle.perm_values.specs.declared.kind.Kind.TheVariants as kind
@@ -13,7 +14,8 @@ use Rattle.bag_algebra.specs.declared.query.Query.TheVariants.{Table, Union}
 use Rattle.contribution.specs.Conjunctions.{always}
 use Rattle.contribution.specs.NullItems.{null_item}
 use Rattle.reduced_queries.specs.Hiding.{hides_none}
-use Rattle.reduced_queries.specs.Reduced.{behind, missing}
+use Rattle.reduced_queries.specs.Reduced.{behind, missing, missing_part}
+use Rattle.reduced_queries.specs.Splitting.{splits}
 
 -- every row is doomed where there is no condition
 abbrev pub condition_or_true : Option Expr → Expr
@@ -41,7 +43,11 @@ with_faults q columns id kinds condition = cond (faultless condition) q (Union t
 abbrev pub adds_none : Expr → Query → Bool
 adds_none condition q = faultless condition && hides_none q
 
+-- the rows of q that the query over what is left doesn't have; where no join reads the table on both sides they are rows over those that go
+abbrev pub lost : ℕ → Expr → Query → Query
+lost id condition q = cond (splits id q) (missing_part id condition q) (missing id condition q)
+
 -- which rows of q vanish, where it reads the table with these kinds
 abbrev pub vanishing : Query → ℕ → List Kind → Expr → Query
 vanishing q id kinds condition =
-    cond (adds_none condition q) (missing id condition q) (behind (with_faults q (kinds_of q) id kinds condition) (missing id condition q))
+    cond (adds_none condition q) (lost id condition q) (behind (with_faults q (kinds_of q) id kinds condition) (missing id condition q))

@@ -3,16 +3,16 @@ ghost use Rattle.std.specs.Prelude.{◌≡◌, [], true, IfOk, IsTrue, option_co
 ghost use Rattle.bag_algebra.specs.Kinds.{kinds_of};
 ghost use Rattle.bag_algebra.specs.WellFormed.{WellFormed};
 ghost use Rattle.bag_algebra.specs.declared.query.Query.TheVariants.{Union};
-ghost use Rattle.delete_impact.specs.Answering.{adds_none, condition_or_true, looked_through, never, no_row_of, vanishing, with_faults};
+ghost use Rattle.delete_impact.specs.Answering.{adds_none, condition_or_true, looked_through, lost, never, no_row_of, vanishing, with_faults};
 ghost use Rattle.delete_impact.specs.Impact.{IsImpact};
 ghost use Rattle.monotone_queries.specs.Conditions.{ConditionFits};
 ghost use Rattle.monotone_queries.specs.Monotone.{is_monotone};
-ghost use Rattle.reduced_queries.specs.Reduced.{behind};
+ghost use Rattle.reduced_queries.specs.Reduced.{behind, missing};
 
 use bag_algebra::{Expr, Query, faultless};
 use contribution::{always, kinds as columns, null_items, projection, selection};
 use perm_values::{Copyable, Kind, List, NoMemory, Value, both};
-use reduced_queries::{behind, first_kinds, hides_none, missing};
+use reduced_queries::{behind, first_kinds, hides_none, missing, missing_part, splits};
 use std::alloc::Global;
 
 /// A query that answers which rows of a monotone, closed query vanish where the rows of the table of the identity that meet the
@@ -71,11 +71,10 @@ fn vanishing(
     ensures { IfOk result (λ p. IsTrue (is_monotone query.now) →
         p ≡ vanishing query.now id kinds.now condition.now) }
 {
-    let missing = missing(alloc, query, id, condition)?;
     if adds_none(query, condition) {
-        Ok(missing)
+        lost(alloc, query, id, condition)
     } else {
-        vanishing_behind(alloc, query, id, kinds, condition, missing)
+        lost_behind(alloc, query, id, kinds, condition)
     }
 }
 
@@ -86,22 +85,34 @@ fn adds_none(query: &Query, condition: &Expr) -> bool
     faultless(condition) && hides_none(query)
 }
 
+/// The rows that are missing over what is left of the table. Where none other can be, they are looked for among the rows over
+/// those that go, which are the fewer.
+fn lost(alloc: Global, query: &Query, id: u64, condition: &Expr) -> Result<Query, NoMemory>
+    ensures { IfOk result (λ p. IsTrue (is_monotone query.now) → p ≡ lost id condition.now query.now) }
+{
+    if splits(query, id) {
+        missing_part(alloc, query, id, condition)
+    } else {
+        missing(alloc, query, id, condition)
+    }
+}
+
 /// The rows that are missing where the query and the condition are good, and else the faults of these.
-fn vanishing_behind(
+fn lost_behind(
     alloc: Global,
     query: &Query,
     id: u64,
     kinds: &List<Kind>,
     condition: &Expr,
-    missing: Query,
 ) -> Result<Query, NoMemory>
-    ensures { IfOk result (λ p.
-        p ≡ behind (with_faults query.now (kinds_of query.now) id kinds.now condition.now) missing) }
+    ensures { IfOk result (λ p. IsTrue (is_monotone query.now) →
+        p ≡ behind (with_faults query.now (kinds_of query.now) id kinds.now condition.now)
+        (missing id condition.now query.now)) }
 {
-    let Ok(first) = all_faults(alloc, query, id, kinds, condition) else {
-        drop(missing);
-        return Err(NoMemory);
-    };
+    let (first, missing) = both(
+        all_faults(alloc, query, id, kinds, condition),
+        missing(alloc, query, id, condition),
+    )?;
     behind(alloc, first, missing)
 }
 

@@ -14,27 +14,72 @@ use Rattle.bag_algebra.specs.built.Openings.{meaning-Except, kinds_of-Except}
 use Rattle.bag_algebra.specs.built.Scopes.{is_plain-Except}
 use Rattle.bag_algebra.specs.declared.expr.Expr.{Expr}
 use Rattle.bag_algebra.specs.declared.query.Query.{Query}
+use Rattle.bag_algebra.specs.declared.query.Query.TheVariants.{Except}
 use Rattle.monotone_queries.specs.Monotone.{is_monotone}
-use Rattle.reduced_queries.specs.Reduced.{reduced, missing}
+use Rattle.reduced_queries.specs.Reduced.{not_true, over_rows, reduced, missing, missing_part}
 use Rattle.reduced_queries.proofs.BehindRows.{by}
-use Rattle.reduced_queries.proofs.ReducedForms.{plain-monotone, formed-reduced, kinds-reduced, plain-reduced, tables-reduced, OnTables}
+use Rattle.reduced_queries.proofs.OverRowsForms.{plain-monotone, formed-over_rows, kinds-over_rows, plain-over_rows, tables-over_rows, not_true-on_tables, OnTables}
+
+-- ---- of any two queries
+
+module _ (q others : Query) where
+  meaning-beyond : (db : Database) → meaning (Except false q others) db [] ≡ both (except_of false) (meaning q db []) (meaning others db [])
+  meaning-beyond db = meaning-Except db [] false q others
+
+  kinds-beyond : kinds_of (Except false q others) ≡ kinds_of q
+  kinds-beyond = kinds_of-Except false q others
+
+  plain-beyond : is_plain q ≡ true → is_plain others ≡ true → is_plain (Except false q others) ≡ true
+  plain-beyond e f = is_plain-Except false q others ∙ both-true (is_plain q) (is_plain others) e f
+
+  tables-beyond : (P : ℕ → List Kind → Type 0) → EachTable P q → EachTable P others → EachTable P (Except false q others)
+  tables-beyond P h k = by (sym (EachTable-Except P false q others)) (h, k)
+
+  formed-beyond : WellFormed [] q → WellFormed [] others → kinds_of q ≡ kinds_of others → WellFormed [] (Except false q others)
+  formed-beyond f g e = by (sym (WellFormed-Except [] false q others)) (record { left_side = f; right_side = g; same_kinds = e })
+
+-- ---- of the query, whole or over the rows that go, and of what is left
 
 module _ (id : ℕ) (condition : Expr) (q : Query) where
+  abbrev going : Query
+  going = over_rows id condition q
+
   abbrev others : Query
   others = reduced id condition q
 
   pub meaning-missing : (db : Database) → meaning (missing id condition q) db [] ≡ both (except_of false) (meaning q db []) (meaning others db [])
-  meaning-missing db = meaning-Except db [] false q others
+  meaning-missing = meaning-beyond q others
+
+  pub meaning-missing_part : (db : Database) → meaning (missing_part id condition q) db [] ≡ both (except_of false) (meaning going db []) (meaning others db [])
+  meaning-missing_part = meaning-beyond going others
 
   pub kinds-missing : kinds_of (missing id condition q) ≡ kinds_of q
-  kinds-missing = kinds_of-Except false q others
+  kinds-missing = kinds-beyond q others
 
-  pub plain-missing : is_monotone q ≡ true → is_plain (missing id condition q) ≡ true
-  plain-missing m = is_plain-Except false q others ∙ both-true (is_plain q) (is_plain others) (plain-monotone q m) (plain-reduced id condition q m)
+  pub kinds-missing_part : kinds_of (missing_part id condition q) ≡ kinds_of q
+  kinds-missing_part = kinds-beyond going others ∙ kinds-over_rows id condition q
 
-  pub tables-missing : (P : ℕ → List Kind → Type 0) → EachTable P q → EachTable P (missing id condition q)
-  tables-missing P h = by (sym (EachTable-Except P false q others)) (h, tables-reduced id condition P q h)
+  module _ (m : is_monotone q ≡ true) where
+    pub plain-missing : is_plain (missing id condition q) ≡ true
+    plain-missing = plain-beyond q others (plain-monotone q m) (plain-over_rows id (not_true condition) q m)
 
-  pub formed-missing : OnTables id condition q → WellFormed [] q → WellFormed [] (missing id condition q)
-  formed-missing on f =
-      by (sym (WellFormed-Except [] false q others)) (record { left_side = f; right_side = formed-reduced id condition q on f; same_kinds = sym (kinds-reduced id condition q) })
+    pub plain-missing_part : is_plain (missing_part id condition q) ≡ true
+    plain-missing_part = plain-beyond going others (plain-over_rows id condition q m) (plain-over_rows id (not_true condition) q m)
+
+  module _ (P : ℕ → List Kind → Type 0) (h : EachTable P q) where
+    pub tables-missing : EachTable P (missing id condition q)
+    tables-missing = tables-beyond q others P h (tables-over_rows id (not_true condition) P q h)
+
+    pub tables-missing_part : EachTable P (missing_part id condition q)
+    tables-missing_part = tables-beyond going others P (tables-over_rows id condition P q h) (tables-over_rows id (not_true condition) P q h)
+
+  module _ (on : OnTables id condition q) (f : WellFormed [] q) where
+    formed-others : WellFormed [] others
+    formed-others = formed-over_rows id (not_true condition) q (not_true-on_tables id condition q on) f
+
+    pub formed-missing : WellFormed [] (missing id condition q)
+    formed-missing = formed-beyond q others f formed-others (sym (kinds-over_rows id (not_true condition) q))
+
+    pub formed-missing_part : WellFormed [] (missing_part id condition q)
+    formed-missing_part =
+        formed-beyond going others (formed-over_rows id condition q on f) formed-others (kinds-over_rows id condition q ∙ sym (kinds-over_rows id (not_true condition) q))

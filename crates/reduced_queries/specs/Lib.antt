@@ -1,3 +1,4 @@
 pub mod Hiding
 pub mod Reads
 pub mod Reduced
+pub mod Splitting

@@ -1,13 +1,15 @@
-//! What a deletion is answered by: whether a query reads a table, the query over what is left of it, the rows that are missing
-//! there, and when no further fault is met there.
+//! What a deletion is answered by: whether a query reads a table, the query over some of its rows, the rows that are missing over
+//! what is left of it, and when no further fault is met there.
 #![tactic(auto)]
 
 mod hiding;
-mod left_over;
 mod missing_rows;
 mod reads;
+mod some_rows;
+mod splitting;
 
 pub use hiding::hides_none;
-pub use left_over::reduced;
-pub use missing_rows::{behind, missing};
+pub use missing_rows::{behind, missing, missing_part};
 pub use reads::first_kinds;
+pub use some_rows::{over_rows, reduced};
+pub use splitting::splits;

@@ -1,4 +1,4 @@
--- What code makes of a monotone query over what is left of a table, node by node.
+-- What code makes of a monotone query over some rows of a table, node by node.
 use Rattle.std.proofs.Common.{◌≡◌, ℕ, Bool, true, false, ◌&&◌, List, [], ◌∷◌, IsTrue, Result, Ok, Err, IfOk, refl, sym, ap, ◌∙◌, subst}
 use mathlib.Core.Bool.{true≢false}
 use Rattle.perm_values.proofs.Taken.{opened}
@@ -20,36 +20,36 @@ use Rattle.bag_algebra.specs.declared.query.Query.TheVariants.{Table, Base, Filt
 use Rattle.bag_algebra.specs.declared.query.Sublink.{Sublink}
 use Rattle.monotone_queries.specs.Monotone.{is_inner, is_monotone, is_relation, is_whole_table}
 use Rattle.monotone_queries.proofs.Nodes.{is_monotone-Base, whole_table-is}
-use Rattle.reduced_queries.specs.Reduced.{left_of, reduced}
+use Rattle.reduced_queries.specs.Reduced.{over_rows, rows_of}
 
 module _ (id : ℕ) (condition : Expr) where
-  -- p is the query over what is left of the table, where the query is monotone
+  -- p is the query over the rows of the table on which the condition is true, where the query is monotone
   abbrev pub Made : Query → Query → Type 0
-  Made q p = IsTrue (is_monotone q) → p ≡ reduced id condition q
+  Made q p = IsTrue (is_monotone q) → p ≡ over_rows id condition q
 
   -- what stands in the place of the input of a source
   abbrev pub MadeSource : Query → Query → Type 0
-  MadeSource q p = (other : ℕ) (kinds : List Kind) → q ≡ Table other kinds → p ≡ left_of id condition other kinds
+  MadeSource q p = (other : ℕ) (kinds : List Kind) → q ≡ Table other kinds → p ≡ rows_of id condition other kinds
 
   pub made-Base : (input i : Query) (places given : List ℕ) (label named : Label) (p : Query) → MadeSource input i → given ≡ places → named ≡ label → p ≡ Base i given named →
       Made (Base input places label) p
   made-Base input i places given label named p h e f made m =
       let is = sym (is_monotone-Base input places label) ∙ m in
       let table = whole_table-is input places (right-true (is_relation label) (is_whole_table input places) is) in
-      let source : i ≡ reduced id condition input = h table.0 table.1 table.2 ∙ ap (reduced id condition) (sym table.2) in
-      made ∙ Base-is i given named ∙ (λ k. BaseOf (source k) (e k) (f k)) ∙ ap (reduced id condition) (sym (Base-is input places label))
+      let source : i ≡ over_rows id condition input = h table.0 table.1 table.2 ∙ ap (over_rows id condition) (sym table.2) in
+      made ∙ Base-is i given named ∙ (λ k. BaseOf (source k) (e k) (f k)) ∙ ap (over_rows id condition) (sym (Base-is input places label))
 
   pub made-Filter : (input i : Query) (test given : Expr) (subs : List Sublink) (p : Query) → Made input i → given ≡ test → p ≡ FilterOf i given [] end_of-Sublink →
       Made (Filter input test subs) p
   made-Filter input i test given [] p h e made m =
-      made ∙ (λ k. FilterOf (h (sym (ap is_monotone (Filter_alone-is input test)) ∙ m) k) (e k) [] end_of-Sublink) ∙ ap (reduced id condition) (sym (Filter_alone-is input test))
+      made ∙ (λ k. FilterOf (h (sym (ap is_monotone (Filter_alone-is input test)) ∙ m) k) (e k) [] end_of-Sublink) ∙ ap (over_rows id condition) (sym (Filter_alone-is input test))
   made-Filter input i test given (sub ∷ subs) p h e made m =
       absurd (true≢false (sym m ∙ ap is_monotone (Filter-is input test (sub ∷ subs)) ∙ ap (λ b. b && is_monotone input) (no_subs-row_of_subs (sub ∷ subs))))
 
   pub made-Project : (input i : Query) (items given : List Item) (subs : List Sublink) (p : Query) → Made input i → given ≡ items → p ≡ ProjectOf i given [] end_of-Sublink →
       Made (Project input items subs) p
   made-Project input i items given [] p h e made m =
-      made ∙ (λ k. ProjectOf (h (sym (ap is_monotone (Project-is input items)) ∙ m) k) (e k) [] end_of-Sublink) ∙ ap (reduced id condition) (sym (Project-is input items))
+      made ∙ (λ k. ProjectOf (h (sym (ap is_monotone (Project-is input items)) ∙ m) k) (e k) [] end_of-Sublink) ∙ ap (over_rows id condition) (sym (Project-is input items))
   made-Project input i items given (sub ∷ subs) p h e made m =
       absurd (true≢false (sym m ∙ ap is_monotone (Project_with-is input items (sub ∷ subs)) ∙ ap (λ b. b && is_monotone input) (no_subs-row_of_subs (sub ∷ subs))))
 
@@ -63,7 +63,7 @@ module _ (id : ℕ) (condition : Expr) where
       let is : ((is_inner kind && true) && (is_monotone left && is_monotone right)) ≡ true = sym (ap is_monotone (Join_alone-is kind left right test)) ∙ m in
       let sides = right-true (is_inner kind && true) (is_monotone left && is_monotone right) is in
       made ∙ (λ k. JoinOf kind (h (left-true (is_monotone left) (is_monotone right) sides) k) (g (right-true (is_monotone left) (is_monotone right) sides) k) (e k) [] end_of-Sublink)
-      ∙ ap (reduced id condition) (sym (Join_alone-is kind left right test))
+      ∙ ap (over_rows id condition) (sym (Join_alone-is kind left right test))
   made-Join kind left l right r test given (sub ∷ subs) p h g e made m =
       absurd (true≢false (sym m ∙ ap is_monotone (Join-is kind left right test (sub ∷ subs))
       ∙ ap (λ b. (is_inner kind && b) && (is_monotone left && is_monotone right)) (no_subs-row_of_subs (sub ∷ subs))
@@ -74,11 +74,11 @@ module _ (id : ℕ) (condition : Expr) where
       let is : (is_monotone left && is_monotone right) ≡ true = sym (ap is_monotone (Union-is all left right)) ∙ m in
       made ∙ Union-is all l r
       ∙ (λ k. UnionOf all (h (left-true (is_monotone left) (is_monotone right) is) k) (g (right-true (is_monotone left) (is_monotone right) is) k))
-      ∙ ap (reduced id condition) (sym (Union-is all left right))
+      ∙ ap (over_rows id condition) (sym (Union-is all left right))
 
   pub made-Distinct : (input i p : Query) → Made input i → p ≡ Distinct i → Made (Distinct input) p
   made-Distinct input i p h made m =
-      made ∙ Distinct-is i ∙ (λ k. DistinctOf (h (sym (ap is_monotone (Distinct-is input)) ∙ m) k)) ∙ ap (reduced id condition) (sym (Distinct-is input))
+      made ∙ Distinct-is i ∙ (λ k. DistinctOf (h (sym (ap is_monotone (Distinct-is input)) ∙ m) k)) ∙ ap (over_rows id condition) (sym (Distinct-is input))
 
   -- ---- what no monotone query has
 
@@ -112,7 +112,7 @@ module _ (id : ℕ) (condition : Expr) where
   onward (Ok p) P q query is h next = subst (λ one. Made one p) (sym is) (next p h)
   onward (Err lack) P q query is h next = tt
 
-  -- what was reduced is what the box holds
+  -- what was gone through is what the box holds
   held : (input got i : Query) → got ≡ input → Made got i → Made input i
   held input got i e h = subst (λ one. Made one i) e h
 

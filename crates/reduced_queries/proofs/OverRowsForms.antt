@@ -1,4 +1,4 @@
--- A monotone query over what is left of a table: its columns, its form and the tables that it reads.
+-- A monotone query over some rows of a table: its columns, its form and the tables that it reads.
 use Rattle.std.proofs.Common.{◌≡◌, ℕ, Bool, true, false, cond, ◌==◌, ◌&&◌, List, [], ◌∷◌, refl, sym, subst}
 use mathlib.Core.Bool.{true≢false}
 use Rattle.std.proofs.lemmas.Bool.{eqb-true}
@@ -26,7 +26,7 @@ use Rattle.replaced_queries.proofs.KeptColumns.{kinds-over}
 use Rattle.replaced_queries.proofs.KeptForms.{formed-over}
 use Rattle.replaced_queries.proofs.OwnTables.{over-own_tables}
 use Rattle.replaced_queries.proofs.TablesInPlace.{each_table-over}
-use Rattle.reduced_queries.specs.Reduced.{not_true, left_of, reduced}
+use Rattle.reduced_queries.specs.Reduced.{not_true, rows_of, over_rows}
 
 -- ---- plain
 
@@ -72,9 +72,9 @@ pub plain-monotone : (q : Query) → is_monotone q ≡ true → is_plain q ≡ t
 plain-monotone q m =
     subst (λ p. is_plain p ≡ true) (over-own_tables Table q (each_table-from_told _ q (λ read h. refl))) (plain-over Table (λ id kinds. refl) q m)
 
--- ---- over what is left
+-- ---- over the rows that meet a condition
 
-pub not_true-formed : (scopes : List (List Kind)) (subs : List Kind) (e : Expr) → HasKind scopes subs e Boolean → HasKind scopes subs (not_true e) Boolean
+not_true-formed : (scopes : List (List Kind)) (subs : List Kind) (e : Expr) → HasKind scopes subs e Boolean → HasKind scopes subs (not_true e) Boolean
 not_true-formed scopes subs e h =
     subst (λ test. HasKind scopes subs test Boolean) (sym (IsTruth-is False (IsTruth True e)))
     (record { parts = subst (λ test. HasKind scopes subs test Boolean) (sym (IsTruth-is True e)) (record { parts = h; gives = refl }); gives = refl })
@@ -83,39 +83,44 @@ module _ (id : ℕ) (condition : Expr) where
   abbrev pub OnTables : Query → Type 0
   OnTables q = EachTable (λ other kinds. other ≡ id → HasKind (kinds ∷ []) [] condition Boolean) q
 
-  columns-where : (other : ℕ) (own : List Kind) (b : Bool) → HasColumns own (cond b (FilterOf (Table other own) (not_true condition) [] end_of-Sublink) (Table other own))
+  pub not_true-on_tables : (q : Query) → OnTables q → EachTable (λ other kinds. other ≡ id → HasKind (kinds ∷ []) [] (not_true condition) Boolean) q
+  not_true-on_tables q on =
+      each_table-kept _ (λ other kinds. other ≡ id → HasKind (kinds ∷ []) [] (not_true condition) Boolean)
+      (λ other kinds has same. not_true-formed (kinds ∷ []) [] condition (has same)) q on
+
+  columns-where : (other : ℕ) (own : List Kind) (b : Bool) → HasColumns own (cond b (FilterOf (Table other own) condition [] end_of-Sublink) (Table other own))
   columns-where other own true = record { columns = refl; places = refl }
   columns-where other own false = record { columns = refl; places = refl }
 
-  columns-left : (q : Query) → EachTable (λ other own. HasColumns own (left_of id condition other own)) q
-  columns-left q = each_table-from_told _ q (λ read h. columns-where read.id read.kinds (read.id == id))
+  columns-rows : (q : Query) → EachTable (λ other own. HasColumns own (rows_of id condition other own)) q
+  columns-rows q = each_table-from_told _ q (λ read h. columns-where read.id read.kinds (read.id == id))
 
   formed-where : (other : ℕ) (own : List Kind) (b : Bool) → (other == id) ≡ b → (other ≡ id → HasKind (own ∷ []) [] condition Boolean) →
-      WellFormed [] (cond b (FilterOf (Table other own) (not_true condition) [] end_of-Sublink) (Table other own))
-  formed-where other own true e f = record { input = tt; subs = tt; condition = not_true-formed (own ∷ []) [] condition (f (eqb-true other id e)) }
+      WellFormed [] (cond b (FilterOf (Table other own) condition [] end_of-Sublink) (Table other own))
+  formed-where other own true e f = record { input = tt; subs = tt; condition = f (eqb-true other id e) }
   formed-where other own false e f = tt
 
-  pub formed-reduced : (q : Query) → OnTables q → WellFormed [] q → WellFormed [] (reduced id condition q)
-  formed-reduced q on f =
-      formed-over (left_of id condition) q [] (columns-left q)
-      (each_table-kept _ (λ other own. WellFormed [] (left_of id condition other own)) (λ other own has. formed-where other own (other == id) refl has) q on) f
+  pub formed-over_rows : (q : Query) → OnTables q → WellFormed [] q → WellFormed [] (over_rows id condition q)
+  formed-over_rows q on f =
+      formed-over (rows_of id condition) q [] (columns-rows q)
+      (each_table-kept _ (λ other own. WellFormed [] (rows_of id condition other own)) (λ other own has. formed-where other own (other == id) refl has) q on) f
 
-  pub kinds-reduced : (q : Query) → kinds_of (reduced id condition q) ≡ kinds_of q
-  kinds-reduced q = kinds-over (left_of id condition) q (columns-left q)
+  pub kinds-over_rows : (q : Query) → kinds_of (over_rows id condition q) ≡ kinds_of q
+  kinds-over_rows q = kinds-over (rows_of id condition) q (columns-rows q)
 
-  plain-where : (other : ℕ) (own : List Kind) (b : Bool) → is_plain (cond b (FilterOf (Table other own) (not_true condition) [] end_of-Sublink) (Table other own)) ≡ true
+  plain-where : (other : ℕ) (own : List Kind) (b : Bool) → is_plain (cond b (FilterOf (Table other own) condition [] end_of-Sublink) (Table other own)) ≡ true
   plain-where other own true = refl
   plain-where other own false = refl
 
-  pub plain-reduced : (q : Query) → is_monotone q ≡ true → is_plain (reduced id condition q) ≡ true
-  plain-reduced q m = plain-over (left_of id condition) (λ other own. plain-where other own (other == id)) q m
+  pub plain-over_rows : (q : Query) → is_monotone q ≡ true → is_plain (over_rows id condition q) ≡ true
+  plain-over_rows q m = plain-over (rows_of id condition) (λ other own. plain-where other own (other == id)) q m
 
   module _ (P : ℕ → List Kind → Type 0) where
-    tables-where : (other : ℕ) (own : List Kind) (b : Bool) → P other own → EachTable P (cond b (FilterOf (Table other own) (not_true condition) [] end_of-Sublink) (Table other own))
+    tables-where : (other : ℕ) (own : List Kind) (b : Bool) → P other own → EachTable P (cond b (FilterOf (Table other own) condition [] end_of-Sublink) (Table other own))
     tables-where other own true p = (p, tt)
     tables-where other own false p = p
 
-    pub tables-reduced : (q : Query) → EachTable P q → EachTable P (reduced id condition q)
-    tables-reduced q h =
-        each_table-over (left_of id condition) P q
-        (each_table-kept _ (λ other own. EachTable P (left_of id condition other own)) (λ other own p. tables-where other own (other == id) p) q h)
+    pub tables-over_rows : (q : Query) → EachTable P q → EachTable P (over_rows id condition q)
+    tables-over_rows q h =
+        each_table-over (rows_of id condition) P q
+        (each_table-kept _ (λ other own. EachTable P (rows_of id condition other own)) (λ other own p. tables-where other own (other == id) p) q h)

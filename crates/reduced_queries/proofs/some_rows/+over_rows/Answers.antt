@@ -1,10 +1,10 @@
-use Rattle.reduced_queries.proofs.ReducedMade.{base-answer, filter-answer, project-answer, join-answer, union-answer, distinct-answer, copy-answer, made-Apply, made-Intersect, made-Except, made-Aggregate, made-Limit, made-Prov}
-use Rattle.reduced_queries.proofs.left_over.+reduced.Goals as goal
+use Rattle.reduced_queries.proofs.OverRowsMade.{base-answer, filter-answer, project-answer, join-answer, union-answer, distinct-answer, copy-answer, made-Apply, made-Intersect, made-Except, made-Aggregate, made-Limit, made-Prov}
+use Rattle.reduced_queries.proofs.some_rows.+over_rows.Goals as goal
 
 pub returns-in_ok-input-in-Base : goal.returns-in_ok-input-in-Base
 returns-in_ok-input-in-Base t c =
     base-answer c.args.id c.args.condition.now c.args.query.now c.in-Base.input c.get.result.now c.in-Base.places c.in-Base.label c.in-Base.is c.get.ensures
-    c.reduced_source.result c.in_ok-input-in-Base.input c.reduced_source.ensures c.in_ok-input-in-Base.ensures.first_was
+    c.source_rows.result c.in_ok-input-in-Base.input c.source_rows.ensures c.in_ok-input-in-Base.ensures.first_was
     c.copy.result c.in_ok-input-in-Base.places c.copy.ensures c.in_ok-input-in-Base.ensures.second_was
     c.copy-in-Base.result c.in_ok-input-in-Base.label c.copy-in-Base.ensures c.in_ok-input-in-Base.ensures.third_was
     c.base.result c.base.ensures
@@ -12,36 +12,36 @@ returns-in_ok-input-in-Base t c =
 pub returns-in_ok-input-in-Filter : goal.returns-in_ok-input-in-Filter
 returns-in_ok-input-in-Filter t c =
     filter-answer c.args.id c.args.condition.now c.args.query.now c.in-Filter.input c.get-in-Filter.result.now c.in-Filter.test c.in-Filter.subs c.in-Filter.is c.get-in-Filter.ensures
-    c.reduced.result c.in_ok-input-in-Filter.input c.reduced.ensures c.in_ok-input-in-Filter.ensures.first_was
+    c.over_rows.result c.in_ok-input-in-Filter.input c.over_rows.ensures c.in_ok-input-in-Filter.ensures.first_was
     c.copy-in-Filter.result c.in_ok-input-in-Filter.test c.copy-in-Filter.ensures c.in_ok-input-in-Filter.ensures.second_was
     c.selection.result c.selection.ensures.made
 
 pub returns-in_ok-input-in-Project : goal.returns-in_ok-input-in-Project
 returns-in_ok-input-in-Project t c =
     project-answer c.args.id c.args.condition.now c.args.query.now c.in-Project.input c.get-in-Project.result.now c.in-Project.items c.in-Project.subs c.in-Project.is c.get-in-Project.ensures
-    c.reduced-in-Project.result c.in_ok-input-in-Project.input c.reduced-in-Project.ensures c.in_ok-input-in-Project.ensures.first_was
+    c.over_rows-in-Project.result c.in_ok-input-in-Project.input c.over_rows-in-Project.ensures c.in_ok-input-in-Project.ensures.first_was
     c.copy-in-Project.result c.in_ok-input-in-Project.items c.copy-in-Project.ensures c.in_ok-input-in-Project.ensures.second_was
     c.projection.result c.projection.ensures.made
 
 pub returns-in_ok-left-in-Join : goal.returns-in_ok-left-in-Join
 returns-in_ok-left-in-Join t c =
     join-answer c.args.id c.args.condition.now c.args.query.now c.in-Join.kind c.in-Join.left c.in-Join.right c.get-in-Join.result.now c.get-in-Join-2.result.now c.in-Join.test c.in-Join.subs c.in-Join.is
-    c.get-in-Join.ensures c.get-in-Join-2.ensures c.reduced-in-Join.result c.in_ok-left-in-Join.left c.reduced-in-Join.ensures c.in_ok-left-in-Join.ensures.first_was
-    c.reduced-in-Join-2.result c.in_ok-left-in-Join.right c.reduced-in-Join-2.ensures c.in_ok-left-in-Join.ensures.second_was
+    c.get-in-Join.ensures c.get-in-Join-2.ensures c.over_rows-in-Join.result c.in_ok-left-in-Join.left c.over_rows-in-Join.ensures c.in_ok-left-in-Join.ensures.first_was
+    c.over_rows-in-Join-2.result c.in_ok-left-in-Join.right c.over_rows-in-Join-2.ensures c.in_ok-left-in-Join.ensures.second_was
     c.copy-in-Join.result c.in_ok-left-in-Join.test c.copy-in-Join.ensures c.in_ok-left-in-Join.ensures.third_was
     c.join_on.result c.join_on.ensures.made
 
 pub returns-in_ok-left-in-Union : goal.returns-in_ok-left-in-Union
 returns-in_ok-left-in-Union t c =
     union-answer c.args.id c.args.condition.now c.args.query.now c.in-Union.all c.in-Union.left c.in-Union.right c.get-in-Union.result.now c.get-in-Union-2.result.now c.in-Union.is
-    c.get-in-Union.ensures c.get-in-Union-2.ensures c.reduced-in-Union.result c.in_ok-left-in-Union.left c.reduced-in-Union.ensures c.in_ok-left-in-Union.ensures.first_was
-    c.reduced-in-Union-2.result c.in_ok-left-in-Union.right c.reduced-in-Union-2.ensures c.in_ok-left-in-Union.ensures.second_was
+    c.get-in-Union.ensures c.get-in-Union-2.ensures c.over_rows-in-Union.result c.in_ok-left-in-Union.left c.over_rows-in-Union.ensures c.in_ok-left-in-Union.ensures.first_was
+    c.over_rows-in-Union-2.result c.in_ok-left-in-Union.right c.over_rows-in-Union-2.ensures c.in_ok-left-in-Union.ensures.second_was
     c.union.result c.union.ensures
 
-pub returns-in_ok-reduced-in-Distinct : goal.returns-in_ok-reduced-in-Distinct
-returns-in_ok-reduced-in-Distinct t c =
-    distinct-answer c.args.id c.args.condition.now c.args.query.now c.in-Distinct.input c.get-in-Distinct.result.now c.in_ok-reduced-in-Distinct.field-0 c.in-Distinct.is c.get-in-Distinct.ensures
-    c.in_ok-reduced-in-Distinct.ensures c.distinct.result c.distinct.ensures
+pub returns-in_ok-over_rows-in-Distinct : goal.returns-in_ok-over_rows-in-Distinct
+returns-in_ok-over_rows-in-Distinct t c =
+    distinct-answer c.args.id c.args.condition.now c.args.query.now c.in-Distinct.input c.get-in-Distinct.result.now c.in_ok-over_rows-in-Distinct.field-0 c.in-Distinct.is c.get-in-Distinct.ensures
+    c.in_ok-over_rows-in-Distinct.ensures c.distinct.result c.distinct.ensures
 
 pub returns-in-Apply : goal.returns-in-Apply
 returns-in-Apply t c =
