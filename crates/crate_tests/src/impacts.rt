@@ -4,7 +4,7 @@ use perm_engine::Status;
 use std::test::Fail;
 
 /// Scripts with what they write and how they end.
-const IMPACTS: [(&str, &str, Status); 12] = [
+const IMPACTS: [(&str, &str, Status); 13] = [
     // A row vanishes where each row that it comes from is deleted; nothing is deleted.
     (
         "CREATE TABLE r (a INTEGER, b TEXT); INSERT INTO r VALUES (1, 'x'), (2, 'x'), (3, 'z'); IMPACT DELETE FROM r WHERE a > 1 OF SELECT b FROM r; IMPACT DELETE FROM r WHERE a > 0 OF SELECT b FROM r; SELECT a FROM r;",
@@ -33,6 +33,12 @@ const IMPACTS: [(&str, &str, Status); 12] = [
     (
         "CREATE TABLE r (a INTEGER); INSERT INTO r VALUES (1), (2); IMPACT DELETE FROM r WHERE a = 1 OF SELECT x.a, y.a FROM r x JOIN r y ON x.a <= y.a;",
         "CREATE TABLE\nINSERT 2\n\"a\",\"a\"\n1,1\n1,2\n(2 rows)\n",
+        Status::Done,
+    ),
+    // A row of two pairs stays with one of them.
+    (
+        "CREATE TABLE r (a INTEGER); CREATE TABLE s (c INTEGER); INSERT INTO r VALUES (1), (2); INSERT INTO s VALUES (1), (2); IMPACT DELETE FROM r WHERE a = 1 OF SELECT c FROM r JOIN s ON a <= c;",
+        "CREATE TABLE\nCREATE TABLE\nINSERT 2\nINSERT 2\n\"c\"\n1\n(1 rows)\n",
         Status::Done,
     ),
     // The condition is looked at on no row of a table that the query doesn't read.
