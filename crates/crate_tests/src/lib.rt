@@ -13,6 +13,10 @@ mod failing;
 #[cfg(test)]
 mod impacts;
 #[cfg(test)]
+mod moved;
+#[cfg(test)]
 mod runs;
 #[cfg(test)]
 mod scripts;
+#[cfg(test)]
+mod smaller;

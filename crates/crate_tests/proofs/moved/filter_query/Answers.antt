@@ -1,0 +1,7 @@
+use Rattle.std.specs.Bool.{IsTrue}
+use Rattle.bag_algebra.specs.Rewriting.{is_plain}
+use Rattle.rewrite_driver.proofs.MadeQueries.{where_made}
+use Rattle.crate_tests.proofs.moved.filter_query.Goals as goal
+
+pub returns : goal.returns
+returns c = where_made _ (λ p. IsTrue (is_plain p)) c.filter_moved-made.result (λ p r. r.plain) c.filter_moved-made.ensures.rewrites
