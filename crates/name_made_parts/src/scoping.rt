@@ -4,8 +4,9 @@ ghost use Rattle.name_meaning.specs.Scopes.{ScopeItem, scope_of};
 ghost use Rattle.name_made_parts.specs.Segments.{back_in, column_in, columns_in, name_in};
 ghost use Rattle.name_made_parts.specs.Sources.{StandsIn};
 
-use name_meaning::{Scope, ScopeColumn};
-use perm_values::{Chars, Copyable, List, NoMemory};
+use name_meaning::{Scope, ScopeColumn, ScopeColumns};
+use name_sets::NameList;
+use perm_values::{Chars, Copyable, NoMemory};
 use std::alloc::Global;
 
 /// The scope of as many items as `count` says, behind the first ones of a scope.
@@ -41,10 +42,10 @@ fn names_in(
     names: &[Chars],
     first: usize,
     count: usize,
-) -> Result<List<Chars>, NoMemory>
+) -> Result<NameList, NoMemory>
     ensures { IfOk result (λ found. found ≡ take count (drop first names.now)) }
 {
-    let mut found = List::new(alloc);
+    let mut found = NameList::none(alloc);
     for place in 0..names.len() {
         add_name(
             alloc,
@@ -60,13 +61,13 @@ fn add_name(
     alloc: Global,
     name: &Chars,
     back: Option<usize>,
-    found: &mut List<Chars>,
+    found: &mut NameList,
 ) -> Result<(), NoMemory>
     ensures { OnOk result (found.new ≡ found.old ++ name_in back name.now) }
 {
     match back {
         None => Ok(()),
-        Some(_) => found.push(name.copy(alloc)?),
+        Some(_) => found.push(alloc, name.copy(alloc)?),
     }
 }
 
@@ -75,10 +76,10 @@ fn columns_in(
     columns: &[ScopeColumn],
     first: usize,
     count: usize,
-) -> Result<List<ScopeColumn>, NoMemory>
+) -> Result<ScopeColumns, NoMemory>
     ensures { IfOk result (λ found. found ≡ columns_in first count columns.now) }
 {
-    let mut found = List::new(alloc);
+    let mut found = ScopeColumns::none(alloc);
     for column in columns {
         add_column(
             alloc,
@@ -95,7 +96,7 @@ fn add_column(
     alloc: Global,
     column: &ScopeColumn,
     back: Option<usize>,
-    found: &mut List<ScopeColumn>,
+    found: &mut ScopeColumns,
 ) -> Result<(), NoMemory>
     ensures { OnOk result (found.new ≡ found.old ++ column_in back column.now) }
 {

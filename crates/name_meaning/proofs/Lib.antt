@@ -1,3 +1,4 @@
+pub mod Ascending
 pub mod Equations
 pub mod Forms
 pub mod Opened

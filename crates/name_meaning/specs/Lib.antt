@@ -1,3 +1,4 @@
+pub mod Ascending
 pub mod Codes
 pub mod Cores
 pub mod Expressions

@@ -7,6 +7,7 @@ mod kinds;
 mod need;
 mod rule;
 mod scope;
+mod scope_columns;
 
 pub use answer::{Break, Resolved};
 pub use columns::names_at;
@@ -14,3 +15,4 @@ pub use kinds::{aggregate_kind, settled};
 pub use need::{Gives, Need};
 pub use rule::Rule;
 pub use scope::{Found, FoundColumn, Scope, ScopeColumn};
+pub use scope_columns::ScopeColumns;

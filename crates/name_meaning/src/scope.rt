@@ -1,3 +1,5 @@
+use crate::scope_columns::ScopeColumns;
+use name_sets::NameList;
 use perm_values::{Chars, Kind, List};
 
 /// A column of an item in scope: the number of the item, from 0, and the column's name and kind.
@@ -12,8 +14,8 @@ pub struct ScopeColumn {
 /// places of its GROUP BY columns in the order written.
 #[derive(Drop)]
 pub struct Scope {
-    pub items: List<Chars>,
-    pub columns: List<ScopeColumn>,
+    pub items: NameList,
+    pub columns: ScopeColumns,
     pub groups: Option<List<usize>>,
 }
 

@@ -35,7 +35,7 @@ pub fn from_scope(
     let mut names = Names::none(around.alloc);
     for source in sources {
         let own = source_items(source, &mut names, around, facts)?;
-        add_items(around.alloc, &mut scope, own)?;
+        add_items(around.alloc, &mut scope, &own)?;
     }
     Ok(scope)
 }

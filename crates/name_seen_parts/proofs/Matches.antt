@@ -1,10 +1,13 @@
 -- What one more column makes of what a name means, and what a reference means in one scope.
-use Rattle.std.specs.Prelude.{◌≡◌, ℕ, ◌+◌, ◌<◌, Bool, true, false, cond, List, [], ◌∷◌, ◌++◌, length, option_map}
+use Rattle.std.specs.Prelude.{◌≡◌, ℕ, zero, suc, ◌+◌, ◌<◌, ◌≤◌, ◌&&◌, Bool, true, false, cond, nat_eq, List, [], ◌∷◌, ◌++◌, length, Some, option_map}
 use Rattle.std.specs.List.{filter, enumerate_from}
-use Rattle.std.proofs.Common.{refl, take, get_or, ap, sym, ◌∙◌, arith}
-use Rattle.std.proofs.lemmas.List.Elements.{filter_more}
+use Rattle.std.proofs.Common.{refl, take, drop, get_or, ap, sym, ◌∙◌, append-nil, arith}
+use Rattle.std.proofs.lemmas.Bool.Decides.{nat_tests}
+use Rattle.std.proofs.lemmas.List.{take-append-drop}
+use Rattle.std.proofs.lemmas.List.Elements.{filter-append, filter_more}
 use Rattle.std.proofs.lemmas.List.FromFn.{length-enumerate_from, get_or-enumerate_from}
-use Rattle.name_meaning.specs.Scopes.{Placed, if_some, found_among}
+use Rattle.name_meaning.specs.Ascending.{Below, From}
+use Rattle.name_meaning.specs.Scopes.{Placed, if_some, found_among, is_called, is_meant}
 use Rattle.name_meaning.specs.declared.scope.Scope.{Scope}
 use Rattle.name_meaning.specs.declared.scope.ScopeColumn.{ScopeColumn}
 use Rattle.name_seen_parts.specs.Named.{named_of, with_column, found_of, found_if_any}
@@ -49,3 +52,40 @@ pub found-in-item : (level : ℕ) (scope : Scope) (columns : List Placed) → fo
 found-in-item level scope [] = refl
 found-in-item level scope (first ∷ []) = refl
 found-in-item level scope (first ∷ other ∷ more) = refl
+
+-- ---- the columns of one item
+
+-- no column of another item is meant
+module _ (number : ℕ) (name : List ℕ) where
+  passed : (k : ℕ) (column : ScopeColumn) (columns : List Placed) → nat_eq number column.item ≡ false
+      → filter (is_meant (Some number) name) ((k, column) ∷ columns) ≡ filter (is_meant (Some number) name) columns
+  passed k column columns other =
+      ap (λ (same : Bool). cond (same && is_called name (k, column)) ((k, column) ∷ filter (is_meant (Some number) name) columns) (filter (is_meant (Some number) name) columns)) other
+
+  pub none-below : (k : ℕ) (columns : List ScopeColumn) (m : ℕ) → Below number (take m columns)
+      → filter (is_meant (Some number) name) (take m (enumerate_from k columns)) ≡ []
+  none-below k [] zero b = refl
+  none-below k [] (suc m) b = refl
+  none-below k (column ∷ columns) zero b = refl
+  none-below k (column ∷ columns) (suc m) b =
+      let other : nat_eq number column.item ≡ false = grind (arith, nat_tests, b.0) in
+      passed k column (take m (enumerate_from (suc k) columns)) other ∙ none-below (suc k) columns m b.1
+
+  none-after : (k : ℕ) (columns : List ScopeColumn) → From (suc number) columns → filter (is_meant (Some number) name) (enumerate_from k columns) ≡ []
+  none-after k [] f = refl
+  none-after k (column ∷ columns) f =
+      let other : nat_eq number column.item ≡ false = grind (arith, nat_tests, f.0) in
+      passed k column (enumerate_from (suc k) columns) other ∙ none-after (suc k) columns f.1
+
+  pub none-behind : (k : ℕ) (columns : List ScopeColumn) (m : ℕ) → From (suc number) (drop m columns)
+      → filter (is_meant (Some number) name) (drop m (enumerate_from k columns)) ≡ []
+  none-behind k [] zero f = refl
+  none-behind k [] (suc m) f = refl
+  none-behind k (column ∷ columns) zero f = none-after k (column ∷ columns) f
+  none-behind k (column ∷ columns) (suc m) f = none-behind (suc k) columns m f
+
+-- nothing is missed behind the place from which on nothing is meant
+pub all-before : (p : Placed → Bool) (columns : List Placed) (end : ℕ) → filter p (drop end columns) ≡ [] → filter p (take end columns) ≡ filter p columns
+all-before p columns end none =
+    sym (ap (filter p) (sym (take-append-drop end columns)) ∙ filter-append p (take end columns) (drop end columns)
+    ∙ ap (λ (more : List Placed). filter p (take end columns) ++ more) none ∙ append-nil (filter p (take end columns)))

@@ -1,7 +1,7 @@
-ghost use Rattle.std.specs.Prelude.{◌≡◌, cond, nat_eq, position};
+ghost use Rattle.std.specs.Prelude.{◌≡◌, ◌≤◌, ℕ, List, [], cond, nat_eq, position, length, take, drop, filter};
 ghost use Rattle.std.specs.Cmp.Lexicographic.{pointwise};
 ghost use Rattle.std.specs.List.{enumerate_from};
-ghost use Rattle.name_meaning.specs.Scopes.{is_meant, columns_meant_by, item_number};
+ghost use Rattle.name_meaning.specs.Scopes.{is_meant, columns_meant_by, item_number, placed};
 ghost use Rattle.name_seen_parts.specs.Named.{named_of, with_column};
 
 use name_meaning::{Scope, ScopeColumn};
@@ -35,7 +35,7 @@ impl Named {
 pub fn item_number(scope: &Scope, name: &Chars) -> Option<usize>
     ensures { result ≡ item_number name.now scope.now }
 {
-    scope.items.as_slice().iter().position(|item| name == item)
+    scope.items.place(name)
 }
 
 fn is_meant(column: &ScopeColumn, item: Option<usize>, name: &Chars, place: usize) -> bool
@@ -47,13 +47,26 @@ fn is_meant(column: &ScopeColumn, item: Option<usize>, name: &Chars, place: usiz
     }
 }
 
+/// Two places between which all columns of the item stand, or of all items, the second behind them.
+fn places_of(scope: &Scope, item: Option<usize>) -> (usize, usize)
+    ensures within { (result.0 ≤ result.1) × (result.1 ≤ length scope.now.columns) }
+    ensures before { (name : List ℕ) → filter (is_meant item name) (take result.0 (placed scope.now)) ≡ [] }
+    ensures behind { (name : List ℕ) → filter (is_meant item name) (drop result.1 (placed scope.now)) ≡ [] }
+{
+    match item {
+        None => (0, scope.columns.len()),
+        Some(number) => scope.columns.of_item(number),
+    }
+}
+
 /// The columns that a name means, those of one item or of all.
 pub fn named_in(scope: &Scope, item: Option<usize>, name: &Chars) -> Named
     ensures { result ≡ named_of (columns_meant_by item name.now scope.now) }
 {
     let columns = scope.columns.as_slice();
+    let (first, end) = places_of(scope, item);
     let mut named = Named::Nowhere;
-    for place in 0..columns.len() {
+    for place in first..end {
         let column = &columns[place];
         named = named.with_if(is_meant(column, item, name, place), place, column.kind);
     }

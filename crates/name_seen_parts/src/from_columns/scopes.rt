@@ -4,9 +4,10 @@ ghost use Rattle.name_meaning.specs.Froms.{table_columns};
 ghost use Rattle.name_meaning.specs.Scopes.{numbered_columns, scope_of};
 ghost use Rattle.name_seen_parts.specs.Scopes.{item_scope, moved_by, scope_beside};
 
-use name_meaning::{Scope, ScopeColumn};
+use name_meaning::{Scope, ScopeColumn, ScopeColumns};
+use name_sets::NameList;
 use perm_catalog::Column;
-use perm_values::{Chars, Copyable, List, NoMemory};
+use perm_values::{Chars, Copyable, NoMemory};
 use std::alloc::Global;
 
 /// The scope of no items. It takes no memory.
@@ -14,42 +15,41 @@ pub fn no_items(alloc: Global) -> Scope
     ensures { result ≡ scope_of [] }
 {
     Scope {
-        items: List::new(alloc),
-        columns: List::new(alloc),
+        items: NameList::none(alloc),
+        columns: ScopeColumns::none(alloc),
         groups: None,
     }
 }
 
 /// Adds the items of another scope behind those of this one. It fails only for want of memory.
-pub fn add_items(alloc: Global, left: &mut Scope, right: Scope) -> Result<(), NoMemory>
-    ensures { OnOk result (left.new ≡ scope_beside left.old right) }
+pub fn add_items(alloc: Global, left: &mut Scope, right: &Scope) -> Result<(), NoMemory>
+    ensures { OnOk result (left.new ≡ scope_beside left.old right.now) }
 {
     let count = left.items.len();
-    let columns = moved(alloc, right.columns.as_slice(), count)?;
-    left.columns.append(columns)?;
-    let Scope {
-        items,
-        columns: _columns,
-        groups: _groups,
-    } = right;
-    left.items.append(items)?;
+    add_moved(
+        alloc,
+        &mut left.columns,
+        right.columns.as_slice(),
+        count,
+    )?;
+    left.items.append(alloc, &right.items)?;
     left.groups = None;
     Ok(())
 }
 
-/// The columns, with as many items before theirs.
-fn moved(
+/// Adds the columns, with as many items before theirs.
+fn add_moved(
     alloc: Global,
+    found: &mut ScopeColumns,
     columns: &[ScopeColumn],
     count: usize,
-) -> Result<List<ScopeColumn>, NoMemory>
-    ensures { IfOk result (λ moved. moved ≡ map (moved_by count) columns.now) }
+) -> Result<(), NoMemory>
+    ensures { OnOk result (found.new ≡ found.old ++ map (moved_by count) columns.now) }
 {
-    let mut moved = List::new(alloc);
     for column in columns {
-        moved.push(moved_column(alloc, column, count)?)?;
+        found.push(moved_column(alloc, column, count)?)?;
     }
-    Ok(moved)
+    Ok(())
 }
 
 fn moved_column(alloc: Global, column: &ScopeColumn, count: usize) -> Result<ScopeColumn, NoMemory>
@@ -76,14 +76,14 @@ pub fn add_item(
 {
     let number = scope.items.len();
     add_columns(alloc, &mut scope.columns, columns, number)?;
-    scope.items.push(name)?;
+    scope.items.push(alloc, name)?;
     scope.groups = None;
     Ok(())
 }
 
 fn add_columns(
     alloc: Global,
-    found: &mut List<ScopeColumn>,
+    found: &mut ScopeColumns,
     columns: &[Column],
     number: usize,
 ) -> Result<(), NoMemory>

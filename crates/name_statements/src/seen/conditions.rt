@@ -10,11 +10,12 @@ ghost use Rattle.name_meaning.specs.Statements as words;
 ghost use Rattle.perm_catalog.specs.Sound.{IsSound};
 
 use crate::seen::values::alone;
-use name_meaning::{Scope, ScopeColumn};
+use name_meaning::{Scope, ScopeColumn, ScopeColumns};
 use name_seen::kind_of;
 use name_seen_parts::{Here, Refusal, Scopes, condition_over, inside};
+use name_sets::NameList;
 use perm_catalog::{Catalog, Column, TableEntry};
-use perm_values::{Chars, Copyable, List, NoMemory};
+use perm_values::{Chars, Copyable, NoMemory};
 use sql_tree::{ExprTree, Name};
 use std::alloc::Global;
 
@@ -65,8 +66,8 @@ pub fn table_scope(alloc: Global, name: &Chars, columns: &[Column]) -> Result<Sc
     ensures { IfOk result (λ scope.
         scope ≡ scope_of (record { name = name.now; columns = table_columns columns.now } ∷ [])) }
 {
-    let mut items = List::new(alloc);
-    items.push(name.copy(alloc)?)?;
+    let mut items = NameList::none(alloc);
+    items.push(alloc, name.copy(alloc)?)?;
     Ok(Scope {
         items,
         columns: numbered(alloc, columns)?,
@@ -75,10 +76,10 @@ pub fn table_scope(alloc: Global, name: &Chars, columns: &[Column]) -> Result<Sc
 }
 
 /// The columns of the first item.
-fn numbered(alloc: Global, columns: &[Column]) -> Result<List<ScopeColumn>, NoMemory>
+fn numbered(alloc: Global, columns: &[Column]) -> Result<ScopeColumns, NoMemory>
     ensures { IfOk result (λ numbered. numbered ≡ numbered_columns 0 (table_columns columns.now)) }
 {
-    let mut numbered = List::new(alloc);
+    let mut numbered = ScopeColumns::none(alloc);
     for column in columns {
         numbered.push(ScopeColumn {
             item: 0,

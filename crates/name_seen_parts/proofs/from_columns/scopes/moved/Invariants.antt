@@ -1,7 +1,0 @@
-use Rattle.std.proofs.Common.{◌≡◌, take}
-use Rattle.std.specs.Prelude.{map}
-use Rattle.name_seen_parts.specs.Scopes.{moved_by}
-use Rattle.name_seen_parts.proofs.from_columns.scopes.moved.Given as goal
-
-abbrev pub invariant-loop-column : goal.invariant-loop-column
-invariant-loop-column l = l.moved ≡ map (moved_by l.count) (take l.column-index l.columns)
