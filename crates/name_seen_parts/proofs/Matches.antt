@@ -69,20 +69,20 @@ module _ (number : ℕ) (name : List ℕ) where
   none-below k (column ∷ columns) zero b = refl
   none-below k (column ∷ columns) (suc m) b =
       let other : nat_eq number column.item ≡ false = grind (arith, nat_tests, b.0) in
-      passed k column (take m (enumerate_from (suc k) columns)) other ∙ none-below (suc k) columns m b.1
+      passed k column (take m (enumerate_from (k + 1) columns)) other ∙ none-below (k + 1) columns m b.1
 
   none-after : (k : ℕ) (columns : List ScopeColumn) → From (suc number) columns → filter (is_meant (Some number) name) (enumerate_from k columns) ≡ []
   none-after k [] f = refl
   none-after k (column ∷ columns) f =
       let other : nat_eq number column.item ≡ false = grind (arith, nat_tests, f.0) in
-      passed k column (enumerate_from (suc k) columns) other ∙ none-after (suc k) columns f.1
+      passed k column (enumerate_from (k + 1) columns) other ∙ none-after (k + 1) columns f.1
 
   pub none-behind : (k : ℕ) (columns : List ScopeColumn) (m : ℕ) → From (suc number) (drop m columns)
       → filter (is_meant (Some number) name) (drop m (enumerate_from k columns)) ≡ []
   none-behind k [] zero f = refl
   none-behind k [] (suc m) f = refl
   none-behind k (column ∷ columns) zero f = none-after k (column ∷ columns) f
-  none-behind k (column ∷ columns) (suc m) f = none-behind (suc k) columns m f
+  none-behind k (column ∷ columns) (suc m) f = none-behind (k + 1) columns m f
 
 -- nothing is missed behind the place from which on nothing is meant
 pub all-before : (p : Placed → Bool) (columns : List Placed) (end : ℕ) → filter p (drop end columns) ≡ [] → filter p (take end columns) ≡ filter p columns
