@@ -1,6 +1,5 @@
 -- Columns whose items' numbers ascend, cut in two and with one more.
-use Rattle.std.specs.Prelude.{⊤}
-use Rattle.std.proofs.Common.{◌≡◌, ℕ, zero, suc, ◌<◌, ◌≤◌, List, [], ◌∷◌, ◌++◌, length, take, drop, get_or, refl, ap, sym, ◌∙◌, subst, arith}
+use Rattle.std.proofs.Common.{◌≡◌, ℕ, zero, suc, ◌<◌, ◌≤◌, List, [], ◌∷◌, ◌++◌, length, take, drop, get_or, refl, sym, subst, arith}
 use Rattle.name_meaning.specs.Ascending.{Ascends, AscendsTo, Below, From, last_item}
 use Rattle.name_meaning.specs.declared.scope.ScopeColumn.{ScopeColumn}
 

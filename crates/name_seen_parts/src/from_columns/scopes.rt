@@ -26,12 +26,7 @@ pub fn add_items(alloc: Global, left: &mut Scope, right: &Scope) -> Result<(), N
     ensures { OnOk result (left.new ≡ scope_beside left.old right.now) }
 {
     let count = left.items.len();
-    add_moved(
-        alloc,
-        &mut left.columns,
-        right.columns.as_slice(),
-        count,
-    )?;
+    add_moved(alloc, &mut left.columns, right.columns.as_slice(), count)?;
     left.items.append(alloc, &right.items)?;
     left.groups = None;
     Ok(())

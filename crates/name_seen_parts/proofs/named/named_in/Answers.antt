@@ -1,4 +1,4 @@
-use Rattle.std.proofs.Common.{◌≡◌, List, ℕ, cond, ap, sym, ◌∙◌, take, arith}
+use Rattle.std.proofs.Common.{◌≡◌, ℕ, cond, ap, sym, ◌∙◌, take, arith}
 use Rattle.std.specs.List.{filter}
 use Rattle.name_meaning.specs.Scopes.{is_meant, placed}
 use Rattle.name_seen_parts.specs.Named.{named_of, with_column}
@@ -11,13 +11,13 @@ loop-place-init c = (c.places_of-first.ensures.within.0, sym (ap named_of (c.pla
 
 pub loop-place-preserved : goal.loop-place-preserved
 loop-place-preserved c = (
-    omega (arith, c.loop-place-test.true),
-    c.with_if-named.ensures
-    ∙ ap (λ meant. cond meant (with_column c.loop-place.named c.loop-place.place c.index-columns-place.result.kind) c.loop-place.named) c.is_meant.ensures
-    ∙ ap (λ (named : Named). cond (is_meant c.args.item c.args.name.now (c.loop-place.place, c.index-columns-place.result)) (with_column named c.loop-place.place c.index-columns-place.result.kind) named) c.loop-place.invariant.1
-    ∙ sym (named-more (is_meant c.args.item c.args.name.now) c.args.scope.now.columns c.loop-place.place c.index-columns-place.result
-    (omega (arith, c.loop-place-test.true, c.places_of-first.ensures.within.1)) (rw c.as_slice-columns.ensures at c.index-columns-place.is)),
-    )
+  omega (arith, c.loop-place-test.true),
+  c.with_if-named.ensures
+      ∙ ap (λ meant. cond meant (with_column c.loop-place.named c.loop-place.place c.index-columns-place.result.kind) c.loop-place.named) c.is_meant.ensures
+      ∙ ap (λ (named : Named). cond (is_meant c.args.item c.args.name.now (c.loop-place.place, c.index-columns-place.result)) (with_column named c.loop-place.place c.index-columns-place.result.kind) named) c.loop-place.invariant.1
+      ∙ sym (named-more (is_meant c.args.item c.args.name.now) c.args.scope.now.columns c.loop-place.place c.index-columns-place.result
+      (omega (arith, c.loop-place-test.true, c.places_of-first.ensures.within.1)) (rw c.as_slice-columns.ensures at c.index-columns-place.is)),
+)
 
 pub returns : goal.returns
 returns c =
