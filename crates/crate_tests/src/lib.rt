@@ -15,6 +15,8 @@ mod impacts;
 #[cfg(test)]
 mod moved;
 #[cfg(test)]
+mod run_sizes;
+#[cfg(test)]
 mod runs;
 #[cfg(test)]
 mod scripts;
