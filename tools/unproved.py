@@ -11,7 +11,9 @@ import pathlib
 import re
 import subprocess
 import sys
+import tempfile
 
+import in_parts
 import scripts
 
 TOP = pathlib.Path(__file__).resolve().parent.parent
@@ -21,6 +23,8 @@ TOLD = (
 )
 SECONDS = 600
 ENDED = re.compile(rb"^run=ended status=(\d+) .*proved=no\n\Z", re.M)
+# What the plain rt would say too: of a program that was started, or of sources that don't compile.
+SETTLED = re.compile(rb"^checked: |error\[", re.M)
 # The lines of `rt try` itself, on the error stream.
 OWN = re.compile(rb"^(?:interpreter|checked|races|run|rt)(?::|=).*\n", re.M)
 
@@ -65,13 +69,19 @@ def by_its_word(said, path, word):
     return re.sub(b"^" + re.escape(os.fsencode(path)) + b":", lambda _: os.fsencode(word) + b":", said, flags=re.M)
 
 
+def run(rt, words):
+    return subprocess.run([rt, *words], cwd=TOP / "crates/perm_cli", stdin=subprocess.DEVNULL, capture_output=True)
+
+
 def main(words):
     say(TOLD)
-    call = ["rt", "try", "--seconds", str(SECONDS), *flags(words), "--"]
     paths = [os.path.join(os.getcwd(), word) if word and len(words) == 1 else word for word in words]
-    call += paths
+    call = ["try", "--seconds", str(SECONDS), *flags(words), "--", *paths]
     try:
-        done = subprocess.run(call, cwd=TOP / "crates/perm_cli", stdin=subprocess.DEVNULL, capture_output=True)
+        with tempfile.TemporaryDirectory(prefix="perm-") as folder:
+            done = run(in_parts.rt(folder), call)
+            if not SETTLED.search(done.stderr):
+                done = run("rt", call)
     except OSError as error:
         give_up(f"rt, of the kit that README.md names, can't be run ({error.strerror})")
     ended = ENDED.search(done.stderr)
