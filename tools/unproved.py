@@ -51,12 +51,19 @@ def handed_on(name):
     return ["--data", f"{within}={os.path.abspath(name)}"]
 
 
-def flags(words):
-    """What hands on the files of the script that the words name."""
+def script_at(words):
+    """Where the name of a script stands in the words: alone, where it isn't an option, or behind `--`; else None."""
+    if len(words) == 1 and words[0] and (words[0] == "-" or words[0][0] != "-"):
+        return 0
+    return 1 if len(words) == 2 and words[0] == "--" and words[1] else None
+
+
+def flags(script):
+    """What hands on the files of the script."""
     found = []
-    if len(words) == 1 and os.path.isfile(words[0]):
+    if os.path.isfile(script):
         try:
-            names = scripts.copied(pathlib.Path(words[0]).read_bytes())
+            names = scripts.copied(pathlib.Path(script).read_bytes())
         except OSError:
             names = []
         for name in names:
@@ -75,8 +82,9 @@ def run(rt, words):
 
 def main(words):
     say(TOLD)
-    paths = [os.path.join(os.getcwd(), word) if word and len(words) == 1 else word for word in words]
-    call = ["try", "--seconds", str(SECONDS), *flags(words), "--", *paths]
+    at = script_at(words)
+    paths = [os.path.join(os.getcwd(), word) if it == at else word for it, word in enumerate(words)]
+    call = ["try", "--seconds", str(SECONDS), *(flags(words[at]) if at is not None else []), "--", *paths]
     try:
         with tempfile.TemporaryDirectory(prefix="perm-") as folder:
             rt = in_parts.rt(folder)

@@ -99,7 +99,9 @@ def main():
                 text = text.replace("{folder}", folder).replace("{name}", os.path.basename(folder)).replace("{long}", "x" * 600_000)
                 pathlib.Path(folder, name).write_text(text)
             given = {**os.environ, "PATH": f"{path}:{os.environ['PATH']}", "PROVED": program}
-            for words in [*([it] for it in SCRIPTS), [], ["no.sql"], ["data"], [""], ["here.sql", "here.sql"], [os.path.join(folder, "here.sql")]]:
+            others = ["no.sql", "data", "", "-", "--", "--help", "--generate", "--generate=3", os.path.join(folder, "here.sql")]
+            pairs = [["here.sql", "here.sql"], ["--generate", "3"], ["--", "here.sql"], ["--", "--generate"], ["--", ""]]
+            for words in [*([it] for it in SCRIPTS), [], *([it] for it in others), *pairs]:
                 proved = subprocess.run([program, *words], cwd=folder, capture_output=True)
                 told = subprocess.run([sys.executable, HERE / "unproved.py", *words], cwd=folder, env=given, capture_output=True)
                 answer = (1, b"") if words and words[0] in NO_ANSWER else (proved.returncode, proved.stdout)
