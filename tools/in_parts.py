@@ -13,7 +13,8 @@ import shutil
 import subprocess
 import sys
 
-PARTS = 4
+# More than there are processors to run them: the last part begins when the module is read and divided, and is waited for.
+PARTS = 8
 CALL = re.compile(
     r"--target=x86_64-unknown-linux-gnu --sysroot=\S+ -march=x86-64 ((?:-mllvm -\S+ |-f(?:function|data)-sections )+)"
     r"--no-default-config -no-canonical-prefixes -fintegrated-cc1 -fno-crash-diagnostics -Werror "
