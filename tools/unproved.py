@@ -11,7 +11,9 @@ import pathlib
 import re
 import subprocess
 import sys
+import tempfile
 
+import in_parts
 import scripts
 
 TOP = pathlib.Path(__file__).resolve().parent.parent
@@ -21,6 +23,8 @@ TOLD = (
 )
 SECONDS = 600
 ENDED = re.compile(rb"^run=ended status=(\d+) .*proved=no\n\Z", re.M)
+# What the plain rt would say too: of a program that was started, or of sources that don't compile.
+SETTLED = re.compile(rb"^checked: |error\[", re.M)
 # The lines of `rt try` itself, on the error stream.
 OWN = re.compile(rb"^(?:interpreter|checked|races|run|rt)(?::|=).*\n", re.M)
 
@@ -47,12 +51,19 @@ def handed_on(name):
     return ["--data", f"{within}={os.path.abspath(name)}"]
 
 
-def flags(words):
-    """What hands on the files of the script that the words name."""
+def script_at(words):
+    """Where the name of a script stands in the words: alone, where it isn't an option, or behind `--`; else None."""
+    if len(words) == 1 and words[0] and (words[0] == "-" or words[0][0] != "-"):
+        return 0
+    return 1 if len(words) == 2 and words[0] == "--" and words[1] else None
+
+
+def flags(script):
+    """What hands on the files of the script."""
     found = []
-    if len(words) == 1 and os.path.isfile(words[0]):
+    if os.path.isfile(script):
         try:
-            names = scripts.copied(pathlib.Path(words[0]).read_bytes())
+            names = scripts.copied(pathlib.Path(script).read_bytes())
         except OSError:
             names = []
         for name in names:
@@ -65,13 +76,21 @@ def by_its_word(said, path, word):
     return re.sub(b"^" + re.escape(os.fsencode(path)) + b":", lambda _: os.fsencode(word) + b":", said, flags=re.M)
 
 
+def run(rt, words):
+    return subprocess.run([rt, *words], cwd=TOP / "crates/perm_cli", stdin=subprocess.DEVNULL, capture_output=True)
+
+
 def main(words):
     say(TOLD)
-    call = ["rt", "try", "--seconds", str(SECONDS), *flags(words), "--"]
-    paths = [os.path.join(os.getcwd(), word) if word and len(words) == 1 else word for word in words]
-    call += paths
+    at = script_at(words)
+    paths = [os.path.join(os.getcwd(), word) if it == at else word for it, word in enumerate(words)]
+    call = ["try", "--seconds", str(SECONDS), *(flags(words[at]) if at is not None else []), "--", *paths]
     try:
-        done = subprocess.run(call, cwd=TOP / "crates/perm_cli", stdin=subprocess.DEVNULL, capture_output=True)
+        with tempfile.TemporaryDirectory(prefix="perm-") as folder:
+            rt = in_parts.rt(folder)
+            done = run(rt, call)
+            if rt != "rt" and not SETTLED.search(done.stderr):
+                done = run("rt", call)
     except OSError as error:
         give_up(f"rt, of the kit that README.md names, can't be run ({error.strerror})")
     ended = ENDED.search(done.stderr)
