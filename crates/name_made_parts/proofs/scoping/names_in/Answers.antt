@@ -6,7 +6,7 @@ use Rattle.name_made_parts.proofs.Segmented.{names-more, no-names}
 use Rattle.name_made_parts.proofs.scoping.names_in.Goals as goal
 
 pub loop-place-init : goal.loop-place-init
-loop-place-init c = c.new-found.ensures ∙ no-names c.args.first c.args.count
+loop-place-init c = c.none-found.ensures ∙ no-names c.args.first c.args.count
 
 pub loop-place-preserved : goal.loop-place-preserved
 loop-place-preserved c =
