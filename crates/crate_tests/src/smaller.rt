@@ -100,10 +100,7 @@ fn some_missing(
 }
 
 /// The rows of the first table where that holds.
-fn where_missing(
-    alloc: Global,
-    items: Result<List<Item>, NoMemory>,
-) -> Result<Query, NoMemory> {
+fn where_missing(alloc: Global, items: Result<List<Item>, NoMemory>) -> Result<Query, NoMemory> {
     let rows = source(alloc, 1, [Kind::Integer, Kind::Text].as_slice());
     let (rows, subs) = both(rows, some_missing(alloc, items))?;
     Query::filter(alloc, rows, Expr::Sub { number: 0 }, subs)

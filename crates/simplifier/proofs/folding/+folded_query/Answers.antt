@@ -1,4 +1,4 @@
-use Rattle.std.proofs.Common.{◌≡◌, true, true≢false, take, refl, sym, subst, rules}
+use Rattle.std.proofs.Common.{◌≡◌, true, true≢false, take, take_all, refl, sym, subst, rules}
 use Rattle.bag_algebra.proofs.Truths.{left-true, right-true}
 use Rattle.bag_algebra.specs.Rewriting.{is_plain, Stands}
 use Rattle.bag_algebra.specs.declared.query.Query.{the_lemmas}
@@ -198,4 +198,14 @@ folded_subs-loop-sub-preserved t c = record {
   stand = subst (λ subs. SubsStand subs c.add_folded.new.others) (sym (one_more c.args.subs.now c.loop-sub.sub-index c.sub-item.result c.loop-sub-test.true c.sub-item.is))
       (c.in_ok-add_folded.ensures.stand (take c.loop-sub.sub-index c.args.subs.now) c.loop-sub.invariant.stand c.folded_query-query.ensures.stands);
   simple = c.in_ok-add_folded.ensures.simple c.loop-sub.invariant.simple c.folded_query-query.ensures.simple;
+}
+
+pub folded_subs-returns : goal.folded_subs-returns
+folded_subs-returns t c = record {
+  bared = record {
+    between = c.loop-sub.others;
+    stand = subst (λ subs. SubsStand subs c.loop-sub.others) (take_all _ _ c.loop-sub-test.false) c.loop-sub.invariant.stand;
+    bared = c.bared.ensures;
+  };
+  simple = bared-simple c.loop-sub.others c.bared.result c.bared.ensures c.loop-sub.invariant.simple;
 }
