@@ -142,9 +142,9 @@ all-themselves [] = tt
 all-themselves (sub ∷ subs) = (itself refl, all-themselves subs)
 
 -- one more of what is bared is bared
-pub one-bared : (subs others : List Sublink) (i : ℕ) (old new : Sublink) → AllBared subs others → i < length others → old ≡ get_or others i old →
-    IsBared old new → AllBared subs (set others i new)
-one-bared subs [] i old new b low is t = absurd (omega (arith, low))
-one-bared [] (other ∷ others) i old new b low is t = absurd b
-one-bared (sub ∷ subs) (other ∷ others) zero old new b low is t = (bared-onward sub other new b.0 (subst (λ x. IsBared x new) is t), b.1)
-one-bared (sub ∷ subs) (other ∷ others) (suc i) old new b low is t = (b.0, one-bared subs others i old new b.1 (omega (arith, low)) is t)
+pub one-bared : (subs others : List Sublink) (i : ℕ) (default new : Sublink) → AllBared subs others → i < length others →
+    IsBared (get_or others i default) new → AllBared subs (set others i new)
+one-bared subs [] i default new b low t = absurd (omega (arith, low))
+one-bared [] (other ∷ others) i default new b low t = absurd b
+one-bared (sub ∷ subs) (other ∷ others) zero default new b low t = (bared-onward sub other new b.0 t, b.1)
+one-bared (sub ∷ subs) (other ∷ others) (suc i) default new b low t = (b.0, one-bared subs others i default new b.1 (omega (arith, low)) t)

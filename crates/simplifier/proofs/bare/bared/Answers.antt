@@ -10,4 +10,4 @@ loop-sub-init c =
 pub loop-sub-preserved : goal.loop-sub-preserved
 loop-sub-preserved c =
     let low : c.loop-sub.sub-index < length c.loop-sub.sub-items = omega arith in
-    one-bared c.args.subs c.loop-sub.sub-items c.loop-sub.sub-index c.sub-item.result c.lay_bare.new.sub c.loop-sub.invariant low c.sub-item.is c.lay_bare.ensures
+    one-bared c.args.subs c.loop-sub.sub-items c.loop-sub.sub-index c.sub-item.result c.lay_bare.new.sub c.loop-sub.invariant low c.lay_bare.ensures
