@@ -115,7 +115,7 @@ fn source_rewritten(
     base(alloc, plain, places)
 }
 
-fn only_item<T: Drop>(alloc: Global, item: T) -> Result<List<T>, NoMemory>
+pub(crate) fn only_item<T: Drop>(alloc: Global, item: T) -> Result<List<T>, NoMemory>
     ensures { IfOk result (λ list. list ≡ item ∷ []) }
 {
     let mut list = List::new(alloc);

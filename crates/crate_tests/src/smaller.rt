@@ -1,12 +1,12 @@
 //! That fewer operators are run than stand for a query with PROVENANCE (`simplifier`): of one with IN, over a table of an integer
-//! and a text and one of integers.
+//! and a text and one of integers. And which are run for EXISTS, whose columns nobody reads.
 ghost use Rattle.std.specs.Prelude.{IfOk, IsTrue};
 ghost use Rattle.bag_algebra.specs.Rewriting.{is_plain};
 
-use crate::moved::comparison;
-use bag_algebra::{Expr, Item, Label, Query, SubKind, size};
-use null_logic::Compare;
-use perm_values::{Kind, List, NoMemory, both};
+use crate::moved::{comparison, only_item};
+use bag_algebra::{ChainStep, Expr, Item, Label, Query, SubKind, Sublink, size};
+use null_logic::{Arith, Compare};
+use perm_values::{Boxed, Kind, List, NoMemory, both};
 use rewrite_driver::eliminate;
 use simplifier::simplify;
 use std::alloc::Global;
@@ -73,5 +73,77 @@ fn few_operators_are_run(rt: HostRuntime) -> Result<(), Fail> {
     let (before, after) = operators(rt.alloc())?;
     assert!(rt; after < before);
     assert!(rt; after <= 8);
+    Ok(())
+}
+
+/// The rows of the second table whose column is NULL.
+fn missing(alloc: Global) -> Result<Query, NoMemory> {
+    let part = Boxed::new(alloc, Expr::Col { level: 0, place: 0 });
+    let rows = source(alloc, 2, [Kind::Integer].as_slice());
+    let (rows, part) = both(rows, part)?;
+    Query::filter(alloc, rows, Expr::IsNull { part }, List::new(alloc))
+}
+
+/// EXISTS over these items of them.
+fn some_missing(
+    alloc: Global,
+    items: Result<List<Item>, NoMemory>,
+) -> Result<List<Sublink>, NoMemory> {
+    let (rows, items) = both(missing(alloc), items)?;
+    let query = Query::project(alloc, rows, items, List::new(alloc))?;
+    let sub = Sublink {
+        kind: SubKind::Exists,
+        tested: None,
+        query,
+    };
+    only_item(alloc, sub)
+}
+
+/// The rows of the first table where that holds.
+fn where_missing(alloc: Global, items: Result<List<Item>, NoMemory>) -> Result<Query, NoMemory> {
+    let rows = source(alloc, 1, [Kind::Integer, Kind::Text].as_slice());
+    let (rows, subs) = both(rows, some_missing(alloc, items))?;
+    Query::filter(alloc, rows, Expr::Sub { number: 0 }, subs)
+}
+
+/// What stands for them.
+fn found(alloc: Global, items: Result<List<Item>, NoMemory>) -> Result<Query, NoMemory>
+    ensures { IfOk result (λ p. IsTrue (is_plain p)) }
+{
+    let asked = where_missing(alloc, items)?;
+    let plain = eliminate(alloc, &asked);
+    drop(asked);
+    plain
+}
+
+/// How many operators are run for that.
+fn run_for(alloc: Global, items: Result<List<Item>, NoMemory>) -> Result<u64, NoMemory> {
+    let found = found(alloc, items)?;
+    let run = simplify(alloc, found)?;
+    let operators = size(&run);
+    drop(run);
+    Ok(operators)
+}
+
+/// A quotient, which may fault.
+fn quotient(alloc: Global) -> Result<List<Item>, NoMemory> {
+    let divisor = ChainStep {
+        op: Arith::Divide,
+        part: Expr::Col { level: 0, place: 0 },
+    };
+    let first = Boxed::new(alloc, Expr::Col { level: 0, place: 0 });
+    let (first, steps) = both(first, only_item(alloc, divisor))?;
+    let item = Item {
+        expr: Expr::Chain { first, steps },
+        kind: Kind::Integer,
+    };
+    only_item(alloc, item)
+}
+
+#[test]
+fn exists_is_run_without_columns(rt: HostRuntime) -> Result<(), Fail> {
+    // Two filters, each over its table; and the projection that may fault.
+    assert!(rt; run_for(rt.alloc(), first_column(rt.alloc())) == Ok(4));
+    assert!(rt; run_for(rt.alloc(), quotient(rt.alloc())) == Ok(5));
     Ok(())
 }

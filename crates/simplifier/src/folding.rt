@@ -2,10 +2,11 @@
 ghost use Rattle.std.specs.Prelude.{◌≡◌, true, IfOk, IsTrue};
 ghost use Rattle.bag_algebra.specs.Rewriting.{is_plain, Stands};
 ghost use Rattle.bag_algebra.specs.built.Scopes.{all_plain};
-ghost use Rattle.query_laws.specs.Standing.{SubsStand};
 ghost use Rattle.folded_literals.specs.Simple.{is_simple};
 ghost use Rattle.folded_literals.specs.built.Simple.{all_simple};
+ghost use Rattle.simplifier.specs.Bare.{SubsStandBared};
 
+use crate::bare::bared;
 use bag_algebra::{Query, Sublink};
 use folded_literals::{add_folded, aggregate_folded, filter_folded, join_folded, project_folded};
 use merged_nodes::distinct_once;
@@ -15,8 +16,8 @@ use standing_nodes::{
 };
 use std::alloc::Global;
 
-/// The query over folded expressions, without its sources, filters on TRUE and DISTINCTs over what has no row twice. It fails
-/// only for want of memory.
+/// The query over folded expressions, without its sources, filters on TRUE, DISTINCTs over what has no row twice, and
+/// projections of which an EXISTS reads nothing. It fails only for want of memory.
 #[cycle(folded_query)]
 pub(crate) fn folded_query(alloc: Global, query: &Query) -> Result<Query, NoMemory>
     requires { IsTrue (is_plain query.now) }
@@ -90,11 +91,11 @@ pub(crate) fn folded_query(alloc: Global, query: &Query) -> Result<Query, NoMemo
     }
 }
 
-/// The sublinks over what stands for their queries.
+/// The sublinks over what stands for their queries, each EXISTS over what decides whether that has a row.
 #[cycle(folded_query)]
 fn folded_subs(alloc: Global, subs: &[Sublink]) -> Result<List<Sublink>, NoMemory>
     requires { IsTrue (all_plain subs.now) }
-    ensures stand { IfOk result (λ others. SubsStand subs.now others) }
+    ensures bared { IfOk result (λ others. SubsStandBared subs.now others) }
     ensures simple { IfOk result (λ others. all_simple others ≡ true) }
 {
     let mut others = List::new(alloc);
@@ -102,5 +103,5 @@ fn folded_subs(alloc: Global, subs: &[Sublink]) -> Result<List<Sublink>, NoMemor
         let query = folded_query(alloc, &sub.query);
         add_folded(alloc, &mut others, sub, query)?;
     }
-    Ok(others)
+    Ok(bared(others))
 }

@@ -23,8 +23,9 @@ use standing_nodes::{
 use std::alloc::Global;
 
 /// A plain query that stands for the query, with joins on the tests that filters above them make of pairs of rows, and with
-/// tests of one side of an inner join below it on that side. What may fault stays where it is. It stands for whatever the
-/// query stands for, and is simple. It fails only for want of memory.
+/// tests of one side of an inner join below it on that side. An EXISTS is over what stands below projections that can't fault.
+/// What may fault stays where it is. It stands for whatever the query stands for, and is simple. It fails only for want of
+/// memory.
 pub fn simplify(alloc: Global, query: Query) -> Result<Query, NoMemory>
     requires { IsTrue (is_plain query) }
     ensures stands { IfOk result (λ p. Stands query p) }

@@ -1,8 +1,8 @@
-use Rattle.std.proofs.Common.{◌≡◌, true, true≢false, take, refl, sym, subst, rules}
+use Rattle.std.proofs.Common.{◌≡◌, true, true≢false, take, take_all, refl, sym, subst, rules}
 use Rattle.bag_algebra.proofs.Truths.{left-true, right-true}
 use Rattle.bag_algebra.specs.Rewriting.{is_plain, Stands}
 use Rattle.bag_algebra.specs.declared.query.Query.{the_lemmas}
-use Rattle.bag_algebra.specs.declared.query.Query.TheVariants.{Single, Apply, Union, Intersect, Except, Limit}
+use Rattle.bag_algebra.specs.declared.query.Query.TheVariants.{Single, Filter, Project, Join, Apply, Union, Intersect, Except, Limit}
 use Rattle.contribution.proofs.Added.{one_more}
 use Rattle.contribution.proofs.NodeQueries.{of_made}
 use Rattle.query_laws.proofs.StandingNodes.{stands-Base}
@@ -12,6 +12,8 @@ use Rattle.rewrite_base.proofs.Itself.{stands-Table, stands-Single}
 use Rattle.standing_nodes.proofs.Standing.{stands_made, stands_where, one_of, first_of, second_of, at_each}
 use Rattle.folded_literals.specs.Simple.{is_simple}
 use Rattle.folded_literals.specs.built.Simple.{simple-Apply, simple-Union, simple-Intersect, simple-Except, simple-Limit}
+use Rattle.simplifier.proofs.BaredNodes.{filter-bared, project-bared, join-bared, over_bared}
+use Rattle.simplifier.proofs.BaredSublinks.{bared-simple}
 use Rattle.simplifier.proofs.SimpleParts.{both-simple, one-simple, once-simple}
 use Rattle.simplifier.proofs.folding.+folded_query.Goals as goal
 
@@ -47,7 +49,9 @@ folded_query-folded_subs-inside-requires t c =
 
 pub folded_query-returns-in-Filter : goal.folded_query-returns-in-Filter
 folded_query-returns-in-Filter t c = record {
-  stands = stands_where _ _ c.filter_folded.result c.in-Filter.is _ (λ p s. s) (c.filter_folded.ensures.stands c.in-Filter.input c.in-Filter.subs (rw c.get-in-Filter.ensures at c.folded_query-rows.ensures.stands) (rw c.as_slice.ensures at c.folded_subs-inside.ensures.stand));
+  stands = stands_where _ _ c.filter_folded.result c.in-Filter.is _ (λ p s. s) (over_bared (Filter c.in-Filter.input c.in-Filter.condition) c.in-Filter.subs c.folded_subs-inside.result c.filter_folded.result
+      (λ others bared. filter-bared c.in-Filter.subs others bared c.in-Filter.input (first_of is_plain _ _ c.requires c.in-Filter.is _ _ (is_plain-Filter c.in-Filter.input c.in-Filter.condition c.in-Filter.subs)) c.in-Filter.condition)
+      (rw c.as_slice.ensures at c.folded_subs-inside.ensures.bared) (λ originals stand. c.filter_folded.ensures.stands c.in-Filter.input originals (rw c.get-in-Filter.ensures at c.folded_query-rows.ensures.stands) stand));
   simple = c.filter_folded.ensures.simple c.folded_query-rows.ensures.simple c.folded_subs-inside.ensures.simple;
 }
 
@@ -61,7 +65,9 @@ folded_query-folded_subs-inside-requires-in-Project t c =
 
 pub folded_query-returns-in-Project : goal.folded_query-returns-in-Project
 folded_query-returns-in-Project t c = record {
-  stands = stands_where _ _ c.project_folded.result c.in-Project.is _ (λ p s. s) (c.project_folded.ensures.stands c.in-Project.input c.in-Project.subs (rw c.get-in-Project.ensures at c.folded_query-rows-in-Project.ensures.stands) (rw c.as_slice-in-Project.ensures at c.folded_subs-inside-in-Project.ensures.stand));
+  stands = stands_where _ _ c.project_folded.result c.in-Project.is _ (λ p s. s) (over_bared (Project c.in-Project.input c.in-Project.items) c.in-Project.subs c.folded_subs-inside-in-Project.result c.project_folded.result
+      (λ others bared. project-bared c.in-Project.subs others bared c.in-Project.input (first_of is_plain _ _ c.requires c.in-Project.is _ _ (is_plain-Project c.in-Project.input c.in-Project.items c.in-Project.subs)) c.in-Project.items)
+      (rw c.as_slice-in-Project.ensures at c.folded_subs-inside-in-Project.ensures.bared) (λ originals stand. c.project_folded.ensures.stands c.in-Project.input originals (rw c.get-in-Project.ensures at c.folded_query-rows-in-Project.ensures.stands) stand));
   simple = c.project_folded.ensures.simple c.folded_query-rows-in-Project.ensures.simple c.folded_subs-inside-in-Project.ensures.simple;
 }
 
@@ -79,8 +85,12 @@ folded_query-folded_subs-inside-requires-in-Join t c =
 
 pub folded_query-returns-in-Join : goal.folded_query-returns-in-Join
 folded_query-returns-in-Join t c = record {
-  stands = stands_where _ _ c.join_folded.result c.in-Join.is _ (λ p s. s)
-      (c.join_folded.ensures.stands c.in-Join.left c.in-Join.right c.in-Join.subs (rw c.get-in-Join.ensures at c.folded_query-lefts.ensures.stands) (rw c.get-in-Join-2.ensures at c.folded_query-rights.ensures.stands) (rw c.as_slice-in-Join.ensures at c.folded_subs-inside-in-Join.ensures.stand));
+  stands =
+      let sides = first_of is_plain _ _ c.requires c.in-Join.is _ _ (is_plain-Join c.in-Join.kind c.in-Join.left c.in-Join.right c.in-Join.condition c.in-Join.subs) in
+      stands_where _ _ c.join_folded.result c.in-Join.is _ (λ p s. s) (over_bared (Join c.in-Join.kind c.in-Join.left c.in-Join.right c.in-Join.condition) c.in-Join.subs c.folded_subs-inside-in-Join.result c.join_folded.result
+      (λ others bared. join-bared c.in-Join.subs others bared c.in-Join.left (left-true _ _ sides) c.in-Join.right (right-true _ _ sides) c.in-Join.kind c.in-Join.condition)
+      (rw c.as_slice-in-Join.ensures at c.folded_subs-inside-in-Join.ensures.bared)
+      (λ originals stand. c.join_folded.ensures.stands c.in-Join.left c.in-Join.right originals (rw c.get-in-Join.ensures at c.folded_query-lefts.ensures.stands) (rw c.get-in-Join-2.ensures at c.folded_query-rights.ensures.stands) stand));
   simple = c.join_folded.ensures.simple c.folded_query-lefts.ensures.simple c.folded_query-rights.ensures.simple c.folded_subs-inside-in-Join.ensures.simple;
 }
 
@@ -188,4 +198,14 @@ folded_subs-loop-sub-preserved t c = record {
   stand = subst (λ subs. SubsStand subs c.add_folded.new.others) (sym (one_more c.args.subs.now c.loop-sub.sub-index c.sub-item.result c.loop-sub-test.true c.sub-item.is))
       (c.in_ok-add_folded.ensures.stand (take c.loop-sub.sub-index c.args.subs.now) c.loop-sub.invariant.stand c.folded_query-query.ensures.stands);
   simple = c.in_ok-add_folded.ensures.simple c.loop-sub.invariant.simple c.folded_query-query.ensures.simple;
+}
+
+pub folded_subs-returns : goal.folded_subs-returns
+folded_subs-returns t c = record {
+  bared = record {
+    between = c.loop-sub.others;
+    stand = subst (λ subs. SubsStand subs c.loop-sub.others) (take_all _ _ c.loop-sub-test.false) c.loop-sub.invariant.stand;
+    bared = c.bared.ensures;
+  };
+  simple = bared-simple c.loop-sub.others c.bared.result c.bared.ensures c.loop-sub.invariant.simple;
 }
