@@ -87,7 +87,7 @@ folded_query-folded_subs-inside-requires-in-Join t c =
 pub folded_query-returns-in-Join : goal.folded_query-returns-in-Join
 folded_query-returns-in-Join t c = record {
   stands =
-      let sides = first_of is_plain (is_plain c.in-Join.left && is_plain c.in-Join.right) (all_plain c.in-Join.subs) c.requires c.in-Join.is _ _ (is_plain-Join c.in-Join.kind c.in-Join.left c.in-Join.right c.in-Join.condition c.in-Join.subs) in
+      let sides = first_of is_plain _ _ c.requires c.in-Join.is (is_plain c.in-Join.left && is_plain c.in-Join.right) (all_plain c.in-Join.subs) (is_plain-Join c.in-Join.kind c.in-Join.left c.in-Join.right c.in-Join.condition c.in-Join.subs) in
       stands_where _ _ c.join_folded.result c.in-Join.is _ (λ p s. s) (over_bared (Join c.in-Join.kind c.in-Join.left c.in-Join.right c.in-Join.condition) c.in-Join.subs c.folded_subs-inside-in-Join.result c.join_folded.result
       (λ others bared. join-bared c.in-Join.subs others bared c.in-Join.left (left-true (is_plain c.in-Join.left) (is_plain c.in-Join.right) sides) c.in-Join.right (right-true (is_plain c.in-Join.left) (is_plain c.in-Join.right) sides) c.in-Join.kind c.in-Join.condition)
       (rw c.as_slice-in-Join.ensures at c.folded_subs-inside-in-Join.ensures.bared)
