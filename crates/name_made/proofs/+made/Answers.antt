@@ -1,5 +1,5 @@
 use Rattle.std.specs.Prelude.{◌≡◌, ℕ, suc, ◌+◌, Bool, true, false, cond, not, List, [], ◌∷◌, ◌++◌, map, Some, None, option_map, IfOk}
-use Rattle.std.proofs.Common.{refl, ap, sym, subst, ◌∙◌, take, arith}
+use Rattle.std.proofs.Common.{refl, ap, sym, subst, ◌∙◌, take, arith, rules}
 use Rattle.std.proofs.lemmas.List.{take_all, map-append}
 use Rattle.null_logic.specs.declared.compare.Compare.TheVariants.{Equal, NotEqual}
 use Rattle.bag_algebra.specs.declared.expr.Arm.{Arm}
@@ -17,6 +17,7 @@ use Rattle.name_meaning.specs.declared.need.Need.TheVariants.{Alike, OfKind}
 use Rattle.name_seen_parts.specs.Named.{scopes_of, here_only}
 use Rattle.name_seen_parts.specs.Standing.{surroundings, around_beside, around_of as standing_of}
 use Rattle.sql_tree.specs.Regular.{is_lateral}
+use Rattle.sql_tree.specs.declared.query.Core.{the_lemmas}
 use Rattle.name_made_nodes.specs.Makes.{IsBuilt, Links, Makes, MakesArms, MakesMore, MakesSteps, before_of, with_sub, MakesQuery}
 use Rattle.name_made_nodes.proofs.Arms.{behind-others, next-arm-made, next-step-made, of-ok, operand-one}
 use Rattle.name_made_nodes.proofs.FormsMade.{aggregate-form, arm-is, between-form, case-else-form, case-form, chain-form, coalesce-form, column-form, compared-form, count-form, distinct-form, exists-form, in-list-form, in-query-form, integer-form, like-form, logic-form, nots-form, null-form, null-of-form, null-test-form, nullif-form, paren-form, quantified-form, scalar-form, signs-form, step-is, text-form, told, truth-form, truth-test-form}
@@ -365,6 +366,9 @@ pub queries::chained-returns : goal.queries::chained-returns
 queries::chained-returns t c = λ meant of_first serves.
     let made = rw (take_all c.loop-step.step-index c.args.steps.now c.loop-step-test.false) at (c.loop-step.invariant meant of_first serves) in
     made.makes serves.whole
+
+pub cores::over_items-sources_made-input-requires : goal.cores::over_items-sources_made-input-requires
+cores::over_items-sources_made-input-requires t c = (search (rules, the_lemmas), c.requires)
 
 pub cores::over_items-returns : goal.cores::over_items-returns
 cores::over_items-returns t c =
