@@ -368,7 +368,7 @@ queries::chained-returns t c = λ meant of_first serves.
     made.makes serves.whole
 
 pub cores::over_items-sources_made-input-requires : goal.cores::over_items-sources_made-input-requires
-cores::over_items-sources_made-input-requires t c = (search (rules, the_lemmas), c.requires)
+cores::over_items-sources_made-input-requires t c = (rw c.as_slice.ensures (search (rules, the_lemmas, c.decreases)), c.requires)
 
 pub cores::over_items-returns : goal.cores::over_items-returns
 cores::over_items-returns t c =
