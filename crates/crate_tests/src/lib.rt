@@ -15,8 +15,6 @@ mod impacts;
 #[cfg(test)]
 mod moved;
 #[cfg(test)]
-mod run_sizes;
-#[cfg(test)]
 mod runs;
 #[cfg(test)]
 mod scripts;
