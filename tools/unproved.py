@@ -18,7 +18,7 @@ import scripts
 
 TOP = pathlib.Path(__file__).resolve().parent.parent
 TOLD = (
-    "perm: not proved yet: this answer comes, in two or three minutes, from the sources as they stand, unproved; "
+    "perm: not proved yet: this answer comes, in two minutes or so, from the sources as they stand, unproved; "
     "./build proves them in an hour or more, and then the proved program answers"
 )
 SECONDS = 600

@@ -3,3 +3,4 @@ pub mod MadeRows
 pub mod Picks
 pub mod RaisedFilters
 pub mod RaisedJoins
+pub mod WholeProjects

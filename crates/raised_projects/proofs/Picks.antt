@@ -73,7 +73,7 @@ module _ (kinds : List Kind) where
   rows-itself (Good us) h = ap Good (sym (each-itself us h))
   rows-itself (Bad faults) h = refl
 
-picks-itself : (query : Query) → Picks query query (range_with_len 0 (width_of query))
+pub picks-itself : (query : Query) → Picks query query (range_with_len 0 (width_of query))
 picks-itself query = record {
   plain = λ h. h;
   tables = λ P h. h;

@@ -15,6 +15,7 @@ use crate::raising::{above, filter_node, join_node, pairs_where};
 use bag_algebra::{Expr, JoinKind, Query, Sublink, faultless};
 use merged_nodes::{distinct_once, project_merged};
 use perm_values::{List, NoMemory};
+use raised_projects::whole_dropped;
 use simpler_laws::{all_fault_free, filter_on, filter_parts, join_sides, lowered, with_conjuncts};
 use standing_nodes::{
     add_standing, aggregate_standing, apply_standing, except_standing, intersect_standing,
@@ -107,7 +108,7 @@ fn under(alloc: Global, query: &Query, tests: &[Expr]) -> Result<Query, NoMemory
             match lowered(alloc, items.as_slice(), subs.as_slice(), tests)? {
                 Some(below) => {
                     let rows = under(alloc, input.get(), below.as_slice());
-                    project_merged(alloc, rows, items, Ok(List::new(alloc)))
+                    whole_dropped(project_merged(alloc, rows, items, Ok(List::new(alloc))))
                 }
                 None => above(alloc, node(alloc, query), tests),
             }
@@ -159,7 +160,7 @@ fn node(alloc: Global, query: &Query) -> Result<Query, NoMemory>
         Query::Project { input, items, subs } => {
             let rows = under(alloc, input.get(), &[]);
             let inside = nodes(alloc, subs.as_slice());
-            project_merged(alloc, rows, items, inside)
+            whole_dropped(project_merged(alloc, rows, items, inside))
         }
         Query::Join {
             kind,

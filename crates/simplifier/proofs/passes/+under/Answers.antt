@@ -56,7 +56,9 @@ node-nodes-inside-requires-in-Project t c =
 
 pub node-returns-in-Project : goal.node-returns-in-Project
 node-returns-in-Project t c =
-    stands_where _ _ c.project_merged.result c.in-Project.is _ (λ p s. s) (c.project_merged.ensures c.in-Project.input c.in-Project.subs (rw c.get-in-Project.ensures at c.under-rows-in-Project.ensures) (rw c.as_slice-in-Project.ensures at c.nodes-inside-in-Project.ensures))
+    stands_where _ _ c.whole_dropped.result c.in-Project.is _ (λ p s. s)
+    (c.whole_dropped.ensures (Project c.in-Project.input c.in-Project.items c.in-Project.subs)
+    (c.project_merged.ensures c.in-Project.input c.in-Project.subs (rw c.get-in-Project.ensures at c.under-rows-in-Project.ensures) (rw c.as_slice-in-Project.ensures at c.nodes-inside-in-Project.ensures)))
 
 pub node-under-lefts-requires : goal.node-under-lefts-requires
 node-under-lefts-requires t c =
@@ -230,8 +232,9 @@ under-under-rows-requires-in-Some t c = (
 
 pub under-returns-in-Some : goal.under-returns-in-Some
 under-returns-in-Some t c =
-    where_made (λ p. Stands (Project (tested c.in-Project.input c.in-Some.below) c.in-Project.items []) p) _ c.project_merged.result (project-passes c.args.query.now c.in-Project.input c.in-Project.items c.in-Project.subs c.args.tests.now c.in-Project.is c.requires.0 c.requires.1
+    where_made (λ p. Stands (Project (tested c.in-Project.input c.in-Some.below) c.in-Project.items []) p) _ c.whole_dropped.result (project-passes c.args.query.now c.in-Project.input c.in-Project.items c.in-Project.subs c.args.tests.now c.in-Project.is c.requires.0 c.requires.1
     (sym c.as_slice-in-Project-2.ensures ∙ (subst (λ o. IfSome o (λ made. (c.as_slice-in-Project-2.result.now ≡ []) × IsLowered c.as_slice-in-Project.result.now c.args.tests.now made)) c.in-Some.is c.in_ok-below-in-Project.ensures).0) c.in-Some.below
     (subst (λ items. IsLowered items c.args.tests.now c.in-Some.below) c.as_slice-in-Project.ensures (subst (λ o. IfSome o (λ made. (c.as_slice-in-Project-2.result.now ≡ []) × IsLowered c.as_slice-in-Project.result.now c.args.tests.now made)) c.in-Some.is c.in_ok-below-in-Project.ensures).1))
+    (c.whole_dropped.ensures (Project (tested c.in-Project.input c.in-Some.below) c.in-Project.items [])
     (c.project_merged.ensures (tested c.in-Project.input c.in-Some.below) [] (rw (c.get-in-Some.ensures, c.as_slice-in-Some.ensures) at c.under-rows-in-Some.ensures)
-    (subst (λ others. SubsStand [] others) (sym c.new.ensures) tt))
+    (subst (λ others. SubsStand [] others) (sym c.new.ensures) tt)))
