@@ -1,3 +1,5 @@
+pub mod AlikeForms
+pub mod CarriedSublinks
 pub mod Inputs
 pub mod MadeRows
 pub mod Picks

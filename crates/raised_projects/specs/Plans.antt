@@ -1,24 +1,31 @@
 -- What is made of a filter or a join over projections to columns: the columns above, and the condition over the rows below.
-use Rattle.std.specs.Prelude.{◌≡◌, ℕ, ◌+◌, List, [], ◌++◌, map}
+use Rattle.std.specs.Prelude.{◌≡◌, ℕ, ◌+◌, true, List, [], ◌++◌, map}
 use Rattle.bag_algebra.specs.declared.expr.Expr.{Expr}
 use Rattle.bag_algebra.specs.declared.expr.Item.{Item}
 use Rattle.bag_algebra.specs.declared.query.Query.{Query}
 use Rattle.bag_algebra.specs.declared.query.Query.TheVariants.{Filter, Join, Project}
+use Rattle.bag_algebra.specs.declared.query.Sublink.{Sublink}
 use Rattle.contribution.specs.MovedColumns.{IsMoved}
 use Rattle.simpler_laws.specs.Lowered.{AreColumns}
+use Rattle.raised_projects.specs.Carried.{Leads, all_reach}
 use Rattle.raised_projects.specs.Sides.{IsSide}
 use Rattle.raised_projects.specs.declared.filters.FilterPlan.{FilterPlan}
 use Rattle.raised_projects.specs.declared.joins.JoinPlan.{JoinPlan}
 use Rattle.raised_projects.specs.declared.sides.Side.{Side}
 
--- the query is a filter without sublinks over a projection to the columns at the places of the order
+-- the query is a filter over a projection to the columns at the places of the order, and its sublinks' queries read none but the first ones,
+-- which stand there at their own places
 pub record IsFilterPlan (query : Query) (plan : FilterPlan) : Type 0 where
   pub under : Query
   pub items : List Item
   pub condition : Expr
-  pub is : query ≡ Filter (Project under items []) condition []
+  pub subs : List Sublink
+  pub is : query ≡ Filter (Project under items []) condition subs
   pub columns : AreColumns items plan.order
   pub moved : IsMoved plan.order condition plan.condition
+  pub first : ℕ
+  pub leads : Leads first plan.order
+  pub reach : all_reach first subs ≡ true
 
 -- the places of the columns of pairs: those of left rows, and those of right rows behind them
 abbrev pub pair_places : List ℕ → ℕ → List ℕ → List ℕ

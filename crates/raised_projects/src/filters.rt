@@ -1,14 +1,16 @@
 //! Filters below projections to columns.
-ghost use Rattle.std.specs.Prelude.{◌≡◌, [], List, IfOk, IfSome};
+ghost use Rattle.std.specs.Prelude.{◌≡◌, List as ItemsOf, IfOk, IfSome};
 ghost use Rattle.bag_algebra.specs.Rewriting.{Stands};
 ghost use Rattle.bag_algebra.specs.declared.expr.Expr.{Expr};
 ghost use Rattle.bag_algebra.specs.declared.query.Query.TheVariants.{Filter};
 ghost use Rattle.bag_algebra.specs.declared.query.Query.{Query};
+ghost use Rattle.bag_algebra.specs.declared.query.Sublink.{Sublink};
 ghost use Rattle.raised_projects.specs.Plans.{IsFilterPlan};
 
+use crate::carried::{all_reach, carried, leading};
 use crate::sides::{below, under};
-use bag_algebra::{Expr, Query};
-use contribution::{moved, regroup, selection};
+use bag_algebra::{Expr, Query, Sublink};
+use contribution::{moved, regroup};
 use perm_values::{List, NoMemory};
 use std::alloc::Global;
 
@@ -19,8 +21,9 @@ pub struct FilterPlan {
     pub condition: Expr,
 }
 
-/// What stands for whatever the query stands for. A filter without sublinks over a projection to columns is that projection
-/// over the filter. It fails where the query failed, and for want of memory.
+/// What stands for whatever the query stands for. A filter over a projection to columns is that projection over the filter,
+/// where the queries of its sublinks read none but the first columns of the projection, and these are the first ones below it too,
+/// in their order. It fails where the query failed, and for want of memory.
 pub fn filter_raised(alloc: Global, query: Result<Query, NoMemory>) -> Result<Query, NoMemory>
     ensures { (q : Query) → IfOk query (λ b. Stands q b) → IfOk result (λ p. Stands q p) }
 {
@@ -43,24 +46,28 @@ fn plan(alloc: Global, query: &Query) -> Result<Option<FilterPlan>, NoMemory>
             input,
             condition,
             subs,
-        } => {
-            if subs.is_empty() {
-                return plan_of(alloc, input.get(), condition);
-            }
-            Ok(None)
-        }
+        } => plan_of(alloc, input.get(), condition, subs),
         _ => Ok(None),
     }
 }
 
-/// The plan for a filter without sublinks.
-fn plan_of(alloc: Global, input: &Query, condition: &Expr) -> Result<Option<FilterPlan>, NoMemory>
+/// The plan for a filter.
+fn plan_of(
+    alloc: Global,
+    input: &Query,
+    condition: &Expr,
+    subs: &List<Sublink>,
+) -> Result<Option<FilterPlan>, NoMemory>
     ensures { IfOk result (λ found. IfSome found (λ plan.
-        IsFilterPlan (Filter input.now condition.now []) plan)) }
+        IsFilterPlan (Filter input.now condition.now subs.now) plan)) }
 {
     let Some(side) = below(alloc, input)? else {
         return Ok(None);
     };
+    let first = leading(side.places.as_slice());
+    if !all_reach(first, subs.as_slice()) {
+        return Ok(None);
+    }
     let condition = moved(alloc, condition, side.places.as_slice())?;
     Ok(Some(FilterPlan {
         order: side.places,
@@ -73,17 +80,23 @@ fn lowered(alloc: Global, query: Query, plan: FilterPlan) -> Result<Query, NoMem
     requires { IsFilterPlan query plan }
     ensures { (q : Query) → Stands q query → IfOk result (λ p. Stands q p) }
 {
-    let rows = under(filtered(query), true);
-    let kept = selection(alloc, rows, plan.condition)?;
+    let (input, subs) = filtered(alloc, query);
+    let Ok(subs) = carried(alloc, subs, plan.order.as_slice()) else {
+        drop(input);
+        drop(plan);
+        return Err(NoMemory);
+    };
+    let kept = Query::filter(alloc, under(input, true), plan.condition, subs)?;
     regroup(alloc, kept, plan.order.as_slice())
 }
 
-/// The input of a filter.
-fn filtered(query: Query) -> Query
-    ensures { (input : Query) (condition : Expr) → query ≡ Filter input condition [] → result ≡ input }
+/// The input and the sublinks of a filter.
+fn filtered(alloc: Global, query: Query) -> (Query, List<Sublink>)
+    ensures { (input : Query) (condition : Expr) (subs : ItemsOf Sublink) →
+        query ≡ Filter input condition subs → result ≡ (input, subs) }
 {
     match query {
-        Query::Filter { input, .. } => input.into_inner(),
-        other => other,
+        Query::Filter { input, subs, .. } => (input.into_inner(), subs),
+        other => (other, List::new(alloc)),
     }
 }

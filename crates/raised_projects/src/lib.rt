@@ -1,6 +1,7 @@
 //! Projections to columns, raised through filters and joins.
 #![tactic(auto)]
 
+mod carried;
 mod filters;
 mod joins;
 mod sides;

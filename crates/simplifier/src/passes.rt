@@ -11,12 +11,12 @@ ghost use Rattle.simpler_laws.specs.Tested.{tested};
 ghost use Rattle.folded_literals.specs.Simple.{is_simple};
 
 use crate::folding::folded_query;
-use crate::raising::{above, filter_node, join_node, pairs_where};
+use crate::raising::{above, filter_node, join_node, pairs_where, rows_where};
 use bag_algebra::{Expr, JoinKind, Query, Sublink, faultless};
 use merged_nodes::{distinct_once, project_merged};
 use perm_values::{List, NoMemory};
 use raised_projects::whole_dropped;
-use simpler_laws::{all_fault_free, filter_on, filter_parts, join_sides, lowered, with_conjuncts};
+use simpler_laws::{all_fault_free, filter_parts, join_sides, lowered, with_conjuncts};
 use standing_nodes::{
     add_standing, aggregate_standing, apply_standing, except_standing, intersect_standing,
     limit_standing, table, union_standing,
@@ -82,7 +82,7 @@ fn under(alloc: Global, query: &Query, tests: &[Expr]) -> Result<Query, NoMemory
                 let parts = filter_parts(alloc, condition, tests)?;
                 let rows = under(alloc, input.get(), parts.below.as_slice());
                 let inside = nodes(alloc, subs.as_slice());
-                filter_on(alloc, rows, parts.above.as_slice(), inside)
+                rows_where(alloc, rows, parts.above.as_slice(), inside)
             } else {
                 above(alloc, node(alloc, query), tests)
             }

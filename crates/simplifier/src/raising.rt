@@ -13,7 +13,7 @@ use bag_algebra::{Expr, JoinKind, Query, Sublink};
 use merged_nodes::inner_pairs;
 use perm_values::{List, NoMemory};
 use raised_projects::{filter_raised, join_raised};
-use simpler_laws::tested;
+use simpler_laws::{filter_on, tested};
 use standing_nodes::{filter_standing, join_standing};
 use std::alloc::Global;
 
@@ -41,6 +41,21 @@ pub(crate) fn pairs_where(
         IfOk result (λ p. Stands (Join Inner q r (all_hold tests.now) []) p) }
 {
     join_raised(alloc, inner_pairs(alloc, left, right, tests))
+}
+
+/// The rows of a query of which all tests over sublinks are true, over what stands for the query and the sublinks. It fails where
+/// one of these failed, and for want of memory.
+pub(crate) fn rows_where(
+    alloc: Global,
+    rows: Result<Query, NoMemory>,
+    tests: &[Expr],
+    subs: Result<List<Sublink>, NoMemory>,
+) -> Result<Query, NoMemory>
+    ensures { (q : Query) (originals : List Sublink) → IfOk rows (λ b. Stands q b) →
+        IfOk subs (λ others. SubsStand originals others) →
+        IfOk result (λ p. Stands (Filter q (all_hold tests.now) originals) p) }
+{
+    filter_raised(alloc, filter_on(alloc, rows, tests, subs))
 }
 
 /// What stands for a Filter over what stands for its input and its sublinks. It fails where one of these failed, and for want

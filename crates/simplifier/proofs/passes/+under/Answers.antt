@@ -182,8 +182,8 @@ under-nodes-inside-requires t c =
 pub under-returns-in_ok-parts-in-Filter : goal.under-returns-in_ok-parts-in-Filter
 under-returns-in_ok-parts-in-Filter t c =
     where_made (λ p. Stands (Filter (tested c.in-Filter.input c.in_ok-parts-in-Filter.parts.below) (all_hold c.in_ok-parts-in-Filter.parts.above) c.in-Filter.subs) p) _
-    c.filter_on.result (quiet-passes c.args.query.now c.in-Filter.input c.in-Filter.condition c.in-Filter.subs c.args.tests.now c.in-Filter.is c.requires.0 c.requires.1 (c.is_quiet.ensures c.if-is_quiet.true).0 (subst (λ ss. all_fault_free ss ≡ true) c.as_slice-else-only_tests.ensures (c.is_quiet.ensures c.if-is_quiet.true).1) c.in_ok-parts-in-Filter.parts c.in_ok-parts-in-Filter.ensures)
-    ((rw c.as_slice-then-is_quiet-3.ensures at c.filter_on.ensures) (tested c.in-Filter.input c.in_ok-parts-in-Filter.parts.below) c.in-Filter.subs
+    c.rows_where.result (quiet-passes c.args.query.now c.in-Filter.input c.in-Filter.condition c.in-Filter.subs c.args.tests.now c.in-Filter.is c.requires.0 c.requires.1 (c.is_quiet.ensures c.if-is_quiet.true).0 (subst (λ ss. all_fault_free ss ≡ true) c.as_slice-else-only_tests.ensures (c.is_quiet.ensures c.if-is_quiet.true).1) c.in_ok-parts-in-Filter.parts c.in_ok-parts-in-Filter.ensures)
+    ((rw c.as_slice-then-is_quiet-3.ensures at c.rows_where.ensures) (tested c.in-Filter.input c.in_ok-parts-in-Filter.parts.below) c.in-Filter.subs
     (rw (c.get-then-is_quiet.ensures, c.as_slice-then-is_quiet.ensures) at c.under-rows.ensures) (rw c.as_slice-then-is_quiet-2.ensures at c.nodes-inside.ensures))
 
 pub under-under-lefts-requires : goal.under-under-lefts-requires
