@@ -37,8 +37,8 @@ TOO_DEEP = re.compile(r"error E(06|27) ")
 NOTHING = "\\N"
 LINE = re.compile(r'"((?:[^"]|"")*)"|([^,]*)')
 SUM = re.compile(r"\bSUM ?\(")
-# A line of a printed text that sorts by places; where NULL stands there is the program's rule, and PostgreSQL's. SQLite's is the other one.
-SORTED = re.compile(r"^( *ORDER BY )(\d+(?: DESC)?(?:, \d+(?: DESC)?)*)(?=;?$)", re.M)
+# What a printed text sorts by, places; where NULL stands there is the program's rule, and PostgreSQL's. SQLite's is the other one.
+SORTED = re.compile(r"(\bORDER BY )(\d+(?: DESC)?(?:, \d+(?: DESC)?)*)(?=;?$|\)| LIMIT \d)", re.M)
 
 
 class Unsaid(Exception):
