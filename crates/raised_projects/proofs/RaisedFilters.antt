@@ -1,5 +1,5 @@
 -- A filter over a projection to columns is that projection over the filter.
-use Rattle.std.proofs.Common.{◌≡◌, ℕ, true, ◌&&◌, List, [], ◌∷◌, length, map, sym, ap, ◌∙◌, subst}
+use Rattle.std.proofs.Common.{◌≡◌, ℕ, true, List, [], ◌∷◌, length, map, sym, ap, ◌∙◌, subst}
 use Rattle.std.proofs.lemmas.Bool.{and_from}
 use Rattle.perm_values.specs.Rows.{picked}
 use Rattle.perm_values.specs.declared.kind.Kind.{Kind}
@@ -8,7 +8,6 @@ use Rattle.bag_algebra.proofs.Truths.{and_true, left-true, right-true}
 use Rattle.bag_algebra.specs.Bags.{Row}
 use Rattle.bag_algebra.specs.Children.{subs_denote}
 use Rattle.bag_algebra.specs.ColumnItems.{column_items}
-use Rattle.bag_algebra.specs.Expressions.{value}
 use Rattle.bag_algebra.specs.Kinds.{kinds_in, kinds_of}
 use Rattle.bag_algebra.specs.Meaning.{Database, meaning, condition_on}
 use Rattle.bag_algebra.specs.Means.{kept}

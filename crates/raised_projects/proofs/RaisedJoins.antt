@@ -191,7 +191,7 @@ pub raised-join : (q query left right lower_left lower_right joined p : Query) (
     query ≡ Join kind left right condition [] → Stands q query → Picks left lower_left lefts → Picks right lower_right rights →
     order ≡ pair_places lefts (width_of lower_left) rights → IsMoved order condition lower → joined ≡ JoinOf kind lower_left lower_right lower [] end_of-Sublink →
     p ≡ ProjectOf joined (column_items (kinds_of joined) order) [] end_of-Sublink → Stands q p
-raised-join q query left right lower_left lower_right joined p lefts rights order kind condition lower is s of_left of_right order_is m joined_is p_is =
+raised-join q query left right lower_left lower_right joined p lefts rights places kind condition lower is s of_left of_right order_is m joined_is p_is =
     let plain : is_plain (Join kind left right condition []) ≡ true = ap is_plain (sym is) ∙ s.plain in
     stands-onward q query p s (subst (λ n. Stands n p) (sym is)
     (subst (Stands (Join kind left right condition []))

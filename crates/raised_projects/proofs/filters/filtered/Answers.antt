@@ -5,7 +5,7 @@ use Rattle.raised_projects.proofs.filters.filtered.Goals as goal
 pub returns-in-Filter : goal.returns-in-Filter
 returns-in-Filter c input condition subs e =
     let same = sym c.in-Filter.is ∙ e in
-    let rows = c.into_inner.ensures ∙ c.in-Filter.input-is ∙ filter-input c.in-Filter.input input c.in-Filter.condition condition c.in-Filter.subs subs same in
+    let rows = c.into_inner.ensures ∙ filter-input c.in-Filter.input input c.in-Filter.condition condition c.in-Filter.subs subs same in
     λ i. (rows i, filter-sublinks c.in-Filter.input input c.in-Filter.condition condition c.in-Filter.subs subs same i)
 
 pub returns-in_default : goal.returns-in_default
