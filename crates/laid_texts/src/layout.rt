@@ -96,7 +96,7 @@ enum Inside {
 }
 
 /// What a parenthesis holds that these tokens follow.
-fn inside(others: &[Token]) -> Inside {
+fn inside_of(others: &[Token]) -> Inside {
     match others {
         [next, rest @ ..] if word(next) == b"SELECT".as_slice() => {
             if is_short(rest) {
@@ -158,7 +158,7 @@ impl Layout {
         ensures { IfOk result (λ gap. gap ≡ Nothing → MayTouch token.now others.now) }
     {
         if symbol(token) == Some(b'(') {
-            self.begin(inside(others))?;
+            self.begin(inside_of(others))?;
         }
         self.bytes = self.bytes.saturating_add(room(token));
         let gap = match others {
