@@ -10,7 +10,7 @@ import tempfile
 import time
 
 from measure import SECONDS, Run
-from tables import TABLES, alone, rows_of, write
+from tables import TABLES, of_one, rows_of, write
 
 NEEDED = ("initdb", "postgres", "psql")
 # psql's status where a statement failed, as one that took too long
@@ -43,6 +43,7 @@ class Postgres:
     """The server, from `with` to its end; `load` gives it the tables of a folder anew."""
 
     name = "PostgreSQL"
+    often = 1
 
     def __init__(self, paths):
         self.paths = paths
@@ -101,8 +102,12 @@ class Postgres:
 
     def ask(self, query):
         """As the other programs do, but the server has the tables already, and the peak memory is its process's for the query."""
-        run = self.run(f"SET statement_timeout = '{SECONDS}s';\nCOPY ({query}) TO STDOUT (FORMAT csv);\n")
+        def asked(times):
+            return self.run(f"SET statement_timeout = '{SECONDS}s';\n" + f"COPY ({query}) TO STDOUT (FORMAT csv);\n" * times)
+
+        run = asked(1)
         if run.seconds is None:
             return None, 0, None
         peak = int(run.last_line().split()[1]) * 1024
-        return alone(run, self.loaded), peak, lambda: rows_of(b"".join(run.answer.splitlines(keepends=True)[:-1]))
+        seconds = of_one(run, self.loaded, lambda: asked(self.often), self.often)
+        return seconds, peak, lambda: rows_of(b"".join(run.answer.splitlines(keepends=True)[:-1]))

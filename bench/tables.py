@@ -10,6 +10,9 @@ from measure import BYTES, PEER, PROGRAM, RUNS, SECONDS, Run
 
 REFUSED = 4
 SIZES = (10**4, 10**5, 10**6)
+# How often a script asks a query that is timed, so that what loading takes more or less counts little; of one that takes longer once.
+OFTEN = {10**4: 20, 10**5: 10, 10**6: 3}
+LONG = 2.0
 KEYS = 10**5
 TABLES = {
     "r": "id INTEGER, few INTEGER, many INTEGER, word TEXT",
@@ -127,6 +130,14 @@ def alone(run, loaded):
     return None if run.seconds is None else max(run.seconds - loaded.seconds, 1e-4)
 
 
+def of_one(run, loaded, several, often):
+    """The seconds of a query that was run once: a part of those of a script that asks it often, unless once takes long."""
+    if run.seconds is None or run.seconds - loaded.seconds > LONG:
+        return alone(run, loaded)
+    more = several()
+    return alone(run if more.seconds is None else more, loaded) / (1 if more.seconds is None else often)
+
+
 def shown(seconds, peak):
     return f"not within {SECONDS} s and {BYTES // 2**30} GiB" if seconds is None else f"{seconds * 1000:9.1f} ms {peak / 2**20:7.1f} MiB"
 
@@ -134,34 +145,46 @@ def shown(seconds, peak):
 class Own:
     """perm, which loads the files in each run."""
 
+    often = 1
+
     def __init__(self, folder):
         self.folder, self.loading = folder, own_loading(folder)
         self.loaded = Run([PROGRAM, write(folder, "load.sql", self.loading)])
 
     def ask(self, query):
         """The seconds of the query alone, the peak memory of the whole run, and a function that gives the rows."""
-        run = Run([PROGRAM, write(self.folder, "query.sql", f"{self.loading}{query};\n")])
-        return alone(run, self.loaded), run.peak, lambda: own_rows(run.answer)
+
+        def asked(times):
+            return Run([PROGRAM, write(self.folder, "query.sql", self.loading + f"{query};\n" * times)])
+
+        run = asked(1)
+        return of_one(run, self.loaded, lambda: asked(self.often), self.often), run.peak, lambda: own_rows(run.answer)
 
 
 class Sqlite:
     """sqlite3 in memory, which loads the files in each run."""
 
     name = "sqlite3"
+    often = 1
 
     def __init__(self, folder):
         self.folder, self.loading = folder, peer_loading(folder)
         self.loaded = Run([PEER, ":memory:"], write(folder, "peer_load.sql", self.loading))
 
     def ask(self, query):
-        run = Run([PEER, ":memory:"], write(self.folder, "peer_query.sql", f"{self.loading}{query};\n"))
-        return alone(run, self.loaded), run.peak, lambda: rows_of(run.answer)
+        def asked(times):
+            return Run([PEER, ":memory:"], write(self.folder, "peer_query.sql", self.loading + f"{query};\n" * times))
+
+        run = asked(1)
+        return of_one(run, self.loaded, lambda: asked(self.often), self.often), run.peak, lambda: rows_of(run.answer)
 
 
 def times_at(folder, size, queries, peers_at):
     """Asks perm and its peers each query over tables of this size. Gives perm's seconds of each."""
     write_files(folder, size)
     own, peers, times = Own(folder), peers_at(folder), {}
+    for program in (own, *peers):
+        program.often = OFTEN.get(size, 1)
     print(f"{size} rows; loading takes perm {own.loaded.seconds * 1000:.0f} ms", flush=True)
     for name, query, peer_query in queries:
         seconds, peak, rows = own.ask(query)
