@@ -162,13 +162,17 @@ class Own:
 
 
 class Sqlite:
-    """sqlite3 in memory, which loads the files in each run."""
+    """sqlite3 in memory, which restores a database of the files in each run: to read the files themselves takes it longer."""
 
     name = "sqlite3"
     often = 1
 
     def __init__(self, folder):
-        self.folder, self.loading = folder, peer_loading(folder)
+        stored = os.path.join(folder, "peer.db")
+        if os.path.exists(stored):
+            os.remove(stored)
+        Run([PEER, stored], write(folder, "peer_store.sql", peer_loading(folder)))
+        self.folder, self.loading = folder, f".mode csv\n.restore {stored}\n"
         self.loaded = Run([PEER, ":memory:"], write(folder, "peer_load.sql", self.loading))
 
     def ask(self, query):

@@ -128,7 +128,7 @@ module _ (subs others : List Sublink) (m : SubsStandBared subs others) where
         (stands-Join q q (stands-itself q plain) r r (stands-itself r right) kind condition condition (same-itself condition) subs m.between m.stand)
         (join-over q plain m.between others m.bared between-plain r right kind condition)
 
-themselves : (subs : List Sublink) → all_plain subs ≡ true → SubsStand subs subs
+pub themselves : (subs : List Sublink) → all_plain subs ≡ true → SubsStand subs subs
 themselves [] h = tt
 themselves (sub ∷ subs) h = (
   record {

@@ -1,8 +1,10 @@
 //! A simpler query in the place of a query without PROVENANCE.
 #![tactic(auto)]
 
+mod alike;
 mod bare;
 mod folding;
+mod forced;
 mod passes;
 mod raising;
 

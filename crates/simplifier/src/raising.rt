@@ -9,6 +9,7 @@ ghost use Rattle.contribution.specs.Conjunctions.{all_hold};
 ghost use Rattle.query_laws.specs.Standing.{SubsStand};
 ghost use Rattle.simpler_laws.specs.Tested.{tested};
 
+use crate::forced::forced;
 use bag_algebra::{Expr, JoinKind, Query, Sublink};
 use merged_nodes::inner_pairs;
 use perm_values::{List, NoMemory};
@@ -88,8 +89,11 @@ pub(crate) fn join_node(
         IfOk subs (λ others. SubsStand originals others) →
         IfOk result (λ p. Stands (Join kind q r condition.now originals) p) }
 {
-    join_raised(
+    forced(
         alloc,
-        join_standing(alloc, kind, left, right, condition, subs),
+        join_raised(
+            alloc,
+            join_standing(alloc, kind, left, right, condition, subs),
+        ),
     )
 }

@@ -4,4 +4,5 @@
 mod naming;
 mod printing;
 
+pub use naming::tables_named;
 pub use printing::print;

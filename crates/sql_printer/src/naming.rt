@@ -16,8 +16,8 @@ use perm_catalog::{Catalog, Column, TableEntry};
 use perm_values::{Chars, Copyable, List, NoMemory};
 use std::alloc::Global;
 
-/// The names of the tables that the query reads, and of their columns, each table once.
-pub(crate) fn tables_named(
+/// The names of the tables that the query reads, and of their columns, each table once. It fails only for want of memory.
+pub fn tables_named(
     alloc: Global,
     catalog: &Catalog,
     query: &Query,

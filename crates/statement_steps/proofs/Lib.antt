@@ -1,4 +1,3 @@
-mod Explained
 mod Lost
 pub mod Selected
 pub mod Unfiled

@@ -1,4 +1,3 @@
-pub mod Explaining
 pub mod Fresh
 pub mod Printed
 pub mod Running

@@ -6,10 +6,10 @@ ghost use Rattle.statement_meaning.specs.Turns.{create_table_as, select, store_a
 ghost use Rattle.statement_steps.specs.Printed.{IsPrinted};
 ghost use Rattle.statement_steps.specs.Runs.{IsAnswered, IsRun, Runs};
 
-use crate::plain::plain_query;
 use crate::runner::Runner;
 use bag_algebra::Answer;
 use csv_tables::answer_text;
+use explained_texts::plain_query;
 use perm_catalog::Catalog;
 use perm_values::{Bytes, Chars};
 use row_values::ExecError;

@@ -2,17 +2,14 @@
 #![tactic(auto)]
 
 mod answering;
-mod explaining;
 mod fresh;
 mod losing;
 mod order;
-mod plain;
 mod ran;
 mod runner;
 mod stepping;
 
 pub use answering::{create_table_as, select};
-pub use explaining::explain;
 pub use fresh::show_fresh;
 pub use losing::impact;
 pub use ran::Ran;

@@ -9,10 +9,10 @@ ghost use Rattle.statement_steps.specs.Running.{KeepsRun};
 ghost use Rattle.statement_steps.specs.Settling.{IsSettled};
 
 use crate::answering::{create_table_as, select};
-use crate::explaining::explain;
 use crate::fresh::show_fresh;
 use crate::losing::impact;
 use crate::runner::Runner;
+use explained_texts::explain;
 use name_meaning::Resolved;
 use perm_catalog::Catalog;
 use perm_io::Files;

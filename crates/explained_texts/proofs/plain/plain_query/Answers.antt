@@ -1,4 +1,4 @@
-use Rattle.statement_steps.proofs.plain.plain_query.Goals as goal
+use Rattle.explained_texts.proofs.plain.plain_query.Goals as goal
 
 pub simplify-requires : goal.simplify-requires
 simplify-requires c = c.in_ok-plain.ensures.stands.plain

@@ -15,7 +15,8 @@ use Rattle.perm_values.specs.declared.key.Key.{Key}
 use Rattle.perm_values.specs.declared.kind.Kind.{Kind}
 use Rattle.perm_values.specs.declared.no_memory.NoMemory.{NoMemory}
 use Rattle.statement_meaning.specs.Ready.{CanExplain}
-use Rattle.statement_steps.specs.Explaining.{StandsFor}
+use Rattle.explained_texts.specs.Explaining.{StandsFor}
+use Rattle.explained_texts.specs.Reading.{SaysAs}
 use Rattle.stored_provenance.specs.Held.{IsHeldTable}
 
 -- a table of the catalog fits each database that gives the catalog's tables rows
@@ -50,6 +51,15 @@ module _ (c : Contents) (answer plain : Answer) (can : CanExplain c answer) (sta
   }
 
   module _ (on : (c : Contents) (answer other : Answer) (text : List ℕ) → MeansTheSame c other answer → Explains c answer text → Explains c other text) where
+    pub explained-text : (text : List ℕ) → Explains c plain text → Explains c answer text
+    explained-text text says = on c plain answer text means says
+
+    -- one that says what the text of the plain answer does
+    pub chosen : (text : List ℕ) → Explains c plain text → (result : Result (List ℕ) NoMemory)
+        → IfOk result (λ said. SaysAs c said text) → IfOk result (λ said. Explains c answer said)
+    chosen text says (Ok said) does = does answer (explained-text text says)
+    chosen text says (Err error) does = tt
+
     pub explained : (result : Result (List ℕ) NoMemory) → IfOk result (λ text. Explains c plain text) → IfOk result (λ text. Explains c answer text)
     explained (Ok text) says = on c plain answer text means says
     explained (Err error) says = tt

@@ -1,0 +1,25 @@
+//! Writes what stands around the query of a sublink.
+use crate::columns::Seen;
+use crate::expressions::push_part;
+use crate::words::{all_words, any_words};
+use bag_algebra::{Expr, SubKind};
+use expression_texts::Draft;
+use perm_values::NoMemory;
+
+/// What stands before the query of a sublink.
+pub(crate) fn push_asking(
+    kind: SubKind,
+    tested: &Option<Expr>,
+    seen: &Seen,
+    draft: &mut Draft,
+) -> Result<(), NoMemory> {
+    if let Some(part) = tested {
+        push_part(part, seen, &[], draft)?;
+    }
+    match kind {
+        SubKind::Exists => draft.push(b"EXISTS ( "),
+        SubKind::Any(compare) => draft.push(any_words(compare)),
+        SubKind::All(compare) => draft.push(all_words(compare)),
+        SubKind::Scalar => draft.push(b"( "),
+    }
+}

@@ -1,0 +1,23 @@
+use Rattle.std.proofs.Common.{◌≡◌, ◌≤◌, ◌<◌, List, [], ◌∷◌, length, get_or, ap, sym, ◌∙◌, subst, arith}
+use Rattle.std.proofs.lemmas.Result.{IfOk-weaker}
+use Rattle.bag_algebra.specs.declared.query.Query.TheVariants.{Filter}
+use Rattle.simplifier.specs.Forced.{SubFinds}
+use Rattle.simplifier.proofs.forced.finds.Goals as goal
+
+-- a list of one
+only : {X : Type 0} (xs : List X) (x : X) → 1 ≤ length xs → length xs < 2 → x ≡ get_or xs 0 x → xs ≡ x ∷ []
+only [] x h k e = absurd (omega (arith, h))
+only (y ∷ []) x h k e = ap (λ z. z ∷ []) (sym e)
+only (y ∷ z ∷ xs) x h k e = absurd (omega (arith, k))
+
+pub returns-in-len1 : goal.returns-in-len1
+returns-in-len1 c =
+    let here = c.in-Filter in
+    let one = sym c.as_slice.ensures ∙ only c.as_slice.result.now c.sub-item.result c.in-len1.len_at_least c.in-len1.len_below c.sub-item.is in
+    let first = c.is_first.ensures c.if-not-is_first.false in
+    IfOk-weaker c.only_finds.result _ _ (λ found h held. record {
+      input = here.input;
+      sub = c.sub-item.result;
+      is = here.is ∙ (λ i. Filter here.input (first i) (one i));
+      finds = subst (λ input. SubFinds input c.sub-item.result c.args.right.now c.args.on.now) c.get.ensures (h held);
+    }) c.only_finds.ensures

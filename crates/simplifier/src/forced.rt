@@ -1,0 +1,164 @@
+//! A LEFT JOIN with what an EXISTS finds that the rows on the left were asked for.
+ghost use Rattle.std.specs.Prelude.{◌≡◌, List as ItemsOf, IfOk, IsTrue};
+ghost use Rattle.bag_algebra.specs.Rewriting.{Stands};
+ghost use Rattle.bag_algebra.specs.declared.expr.Expr.{Expr};
+ghost use Rattle.bag_algebra.specs.declared.expr.Expr.TheVariants.{Sub};
+ghost use Rattle.bag_algebra.specs.declared.query.Query.TheVariants.{Filter};
+ghost use Rattle.bag_algebra.specs.declared.query.Query.{Query};
+ghost use Rattle.bag_algebra.specs.declared.query.Sublink.{Sublink};
+ghost use Rattle.simplifier.specs.Forced.{FindsOn, IsForced, IsOn, SubFinds};
+
+use crate::alike::{same_expr, same_table};
+use bag_algebra::{Expr, JoinKind, Query, SubKind, Sublink, faultless};
+use perm_values::{List, NoMemory};
+use rewrite_base::exact_width;
+use spine_joins::{Spine, spine_of};
+use std::alloc::Global;
+
+/// What stands for whatever the query stands for. A LEFT JOIN of the rows where an EXISTS is true with the table that it looks at,
+/// on the same test, is the inner join of all rows, below a projection too. It fails where the query failed, and for want of memory.
+pub(crate) fn forced(alloc: Global, query: Result<Query, NoMemory>) -> Result<Query, NoMemory>
+    ensures { (q : Query) → IfOk query (λ b. Stands q b) → IfOk result (λ p. Stands q p) }
+{
+    match query? {
+        Query::Project { input, items, subs } => {
+            let Ok(rows) = joined(alloc, input.into_inner()) else {
+                drop(items);
+                drop(subs);
+                return Err(NoMemory);
+            };
+            Query::project(alloc, rows, items, subs)
+        }
+        other => joined(alloc, other),
+    }
+}
+
+/// The same of the topmost join.
+fn joined(alloc: Global, query: Query) -> Result<Query, NoMemory>
+    ensures { (q : Query) → Stands q query → IfOk result (λ p. Stands q p) }
+{
+    match query {
+        Query::Join {
+            kind,
+            left,
+            right,
+            condition,
+            subs,
+        } => {
+            let Ok(forced) = is_forced(alloc, kind, left.get(), right.get(), &condition, &subs)
+            else {
+                drop(left);
+                drop(right);
+                drop(condition);
+                drop(subs);
+                return Err(NoMemory);
+            };
+            if forced {
+                let rows = filtered(left.into_inner());
+                return Query::join(
+                    alloc,
+                    JoinKind::Inner,
+                    rows,
+                    right.into_inner(),
+                    condition,
+                    subs,
+                );
+            }
+            Ok(Query::Join {
+                kind,
+                left,
+                right,
+                condition,
+                subs,
+            })
+        }
+        other => Ok(other),
+    }
+}
+
+/// The input of a filter.
+fn filtered(query: Query) -> Query
+    ensures { (input : Query) (condition : Expr) (subs : ItemsOf Sublink) →
+        query ≡ Filter input condition subs → result ≡ input }
+{
+    match query {
+        Query::Filter { input, .. } => input.into_inner(),
+        other => other,
+    }
+}
+
+/// Whether a join is such a one.
+fn is_forced(
+    alloc: Global,
+    kind: JoinKind,
+    left: &Query,
+    right: &Query,
+    on: &Expr,
+    subs: &List<Sublink>,
+) -> Result<bool, NoMemory>
+    ensures { IfOk result (λ forced. IsTrue forced → IsForced kind left.now right.now on.now subs.now) }
+{
+    if !matches!(kind, JoinKind::Left) || !subs.is_empty() || !faultless(on) {
+        return Ok(false);
+    }
+    finds(alloc, left, right, on)
+}
+
+/// Whether the query is a filter on an EXISTS alone, which finds the rows of the other on the test.
+fn finds(alloc: Global, left: &Query, right: &Query, on: &Expr) -> Result<bool, NoMemory>
+    ensures { IfOk result (λ found. IsTrue found → FindsOn left.now right.now on.now) }
+{
+    match left {
+        Query::Filter {
+            input,
+            condition,
+            subs,
+        } => {
+            if !is_first(condition) {
+                return Ok(false);
+            }
+            match subs.as_slice() {
+                [sub] => only_finds(alloc, input.get(), sub, right, on),
+                _ => Ok(false),
+            }
+        }
+        _ => Ok(false),
+    }
+}
+
+/// Whether the expression is the first sublink.
+fn is_first(expr: &Expr) -> bool
+    ensures { IsTrue result → expr.now ≡ Sub 0 }
+{
+    matches!(expr, Expr::Sub { number: 0 })
+}
+
+/// Whether the sublink is an EXISTS beside rows of the input that finds the rows of the other query on the test.
+fn only_finds(
+    alloc: Global,
+    input: &Query,
+    sub: &Sublink,
+    right: &Query,
+    on: &Expr,
+) -> Result<bool, NoMemory>
+    ensures { IfOk result (λ found. IsTrue found → SubFinds input.now sub.now right.now on.now) }
+{
+    if !matches!(sub.kind, SubKind::Exists) || sub.tested.is_some() {
+        return Ok(false);
+    }
+    let width = exact_width(input)?;
+    match spine_of(alloc, &sub.query, width)? {
+        Some(spine) => Ok(is_on(&spine, right, on)),
+        None => Ok(false),
+    }
+}
+
+/// Whether the spine has the rows of the query on the test.
+fn is_on(spine: &Spine, right: &Query, on: &Expr) -> bool
+    ensures { IsTrue result → IsOn spine.now right.now on.now }
+{
+    match &spine.test {
+        Some(test) => same_table(&spine.base, right) && same_expr(test, on),
+        None => false,
+    }
+}
