@@ -35,9 +35,11 @@ names-whole (b ∷ found) limits none = none
 -- a text that ends in these bytes is some others and these
 pub ended-by : (text needle : List ℕ) → true ≡ ends_with nat_eq text needle → (front : List ℕ) × (text ≡ front ++ needle)
 ended-by text needle ends =
-    let front = take (length text - length needle) text in
-    (front, sym (take-append-drop (length text - length needle) text)
-    ∙ ap (λ (back : List ℕ). front ++ back) (sym (same_text needle (drop (length text - length needle) text) ends)))
+    let front = take (length text - length needle) text in (
+      front,
+      sym (take-append-drop (length text - length needle) text)
+          ∙ ap (λ (back : List ℕ). front ++ back) (sym (same_text needle (drop (length text - length needle) text) ends)),
+    )
 
 pub asked : (statement : Statement) (tree : QueryTree) → statement.body ≡ Select tree
     → OnlyQuery (record { statements = statement ∷ [] }) (Some (explain_of statement.at tree))
