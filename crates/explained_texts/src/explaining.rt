@@ -82,14 +82,14 @@ fn readable_text(
     }
 }
 
-/// The answer as people would write it, in lines; `None` where a name is too long.
+/// The answer as people would write it, in lines; `None` where a name may not be repeated.
 fn text_with_names(
     alloc: Global,
     catalog: &Catalog,
     answer: &Answer,
 ) -> Result<Option<Bytes>, NoMemory> {
     let tables = tables_named(alloc, catalog, &answer.query)?;
-    if !names_are_short(tables.as_slice(), answer.names.as_slice()) {
+    if !names_may_repeat(tables.as_slice(), answer.names.as_slice()) {
         return Ok(None);
     }
     let text = named_text(alloc, tables.as_slice(), answer)?;
@@ -97,22 +97,28 @@ fn text_with_names(
 }
 
 fn are_short(names: &[Chars]) -> bool {
-    for name in names {
-        if name.bytes().len() > LONGEST_NAME {
-            return false;
-        }
-    }
-    true
+    names.iter().all(|name| name.bytes().len() <= LONGEST_NAME)
 }
 
-/// Whether the names of tables, of their columns and of an answer's are so short that a text may repeat them.
-fn names_are_short(tables: &[TableNames], names: &[Chars]) -> bool {
-    for table in tables {
-        if table.name.bytes().len() > LONGEST_NAME || !are_short(table.columns.as_slice()) {
-            return false;
-        }
-    }
-    are_short(names)
+/// Whether no name has a capital letter, which SQLite doesn't tell from a small one.
+fn are_small(names: &[Chars]) -> bool {
+    names.iter().all(|name| !has_capital(name.bytes()))
+}
+
+fn has_capital(name: &[u8]) -> bool {
+    name.iter().any(|byte| byte.is_ascii_uppercase())
+}
+
+/// Whether a text may repeat the name of a table, and those of its columns.
+fn may_repeat(table: &TableNames) -> bool {
+    let columns = table.columns.as_slice();
+    let name = table.name.bytes();
+    name.len() <= LONGEST_NAME && !has_capital(name) && are_short(columns) && are_small(columns)
+}
+
+/// Whether a text may repeat the names of all tables, and those of their columns and of an answer's are short.
+fn names_may_repeat(tables: &[TableNames], names: &[Chars]) -> bool {
+    tables.iter().all(|table| may_repeat(table)) && are_short(names)
 }
 
 /// The text with names, where its plain text is the other one; else the other one.
