@@ -3,6 +3,7 @@
 import csv
 import os
 import random
+import subprocess
 import sys
 import tempfile
 
@@ -11,7 +12,7 @@ from measure import BYTES, PEER, PROGRAM, RUNS, SECONDS, Run
 REFUSED = 4
 SIZES = (10**4, 10**5, 10**6)
 # How often a script asks a query that is timed, so that what loading takes more or less counts little; of one that takes longer once.
-OFTEN = {10**4: 20, 10**5: 10, 10**6: 3}
+OFTEN = {10**4: 20, 10**5: 10, 10**6: 5}
 LONG = 2.0
 KEYS = 10**5
 TABLES = {
@@ -171,7 +172,7 @@ class Sqlite:
         stored = os.path.join(folder, "peer.db")
         if os.path.exists(stored):
             os.remove(stored)
-        Run([PEER, stored], write(folder, "peer_store.sql", peer_loading(folder)))
+        subprocess.run([PEER, stored], input=peer_loading(folder), text=True, check=True, stdout=subprocess.DEVNULL)
         self.folder, self.loading = folder, f".mode csv\n.restore {stored}\n"
         self.loaded = Run([PEER, ":memory:"], write(folder, "peer_load.sql", self.loading))
 
