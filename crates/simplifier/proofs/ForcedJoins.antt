@@ -1,11 +1,10 @@
--- A LEFT JOIN of the rows where an EXISTS over a spine is true with the spine's base on its test is the inner join of all rows.
-use Rattle.std.proofs.Common.{◌≡◌, ℕ, Bool, true, false, cond, ◌&&◌, ◌||◌, List, [], ◌∷◌, ◌++◌, filter, length, Option, Some, None, append-nil, refl, sym, ap, ◌∙◌, subst}
+-- A LEFT JOIN of the rows where an EXISTS or an ANY over a spine is true with the spine's base, on what it asks for, is the inner join of all rows.
+use Rattle.std.proofs.Common.{◌≡◌, Bool, true, false, cond, ◌&&◌, List, [], ◌∷◌, ◌++◌, filter, length, refl, sym, ap, ◌∙◌, subst}
 use Rattle.std.specs.List.{list_any}
 use Rattle.std.proofs.lemmas.Bool.{and_from}
 use Rattle.perm_values.specs.declared.kind.Kind.{Kind}
 use Rattle.perm_values.specs.declared.kind.Kind.TheVariants as kind
 use Rattle.perm_values.specs.declared.value.Value.{Value}
-use Rattle.perm_values.specs.declared.value.Value.TheVariants.{Boolean, Null}
 use Rattle.bag_algebra.proofs.Members.{IsIn}
 use Rattle.bag_algebra.proofs.NeverBad.{good-query, good-value}
 use Rattle.bag_algebra.proofs.Truths.{left-true, right-true}
@@ -16,10 +15,10 @@ use Rattle.bag_algebra.specs.FaultFree.{faultless}
 use Rattle.bag_algebra.specs.Fits.{TablesFit, env_fits, bag_fits}
 use Rattle.bag_algebra.specs.Kinds.{kinds_of, width_of}
 use Rattle.bag_algebra.specs.Meaning.{Database, meaning, condition_on, optional_value}
-use Rattle.bag_algebra.specs.Means.{holds_of, is_met, is_some_row, kept, joined_rows, no_subs, sub_value}
-use Rattle.bag_algebra.specs.Outcome.{Outcome, Good, Bad, and_then, mapped, both, both_then, gather, is_good}
+use Rattle.bag_algebra.specs.Means.{holds_of, is_met, kept, joined_rows, no_subs, sub_value}
+use Rattle.bag_algebra.specs.Outcome.{Outcome, Good, Bad, and_then, mapped, both, both_then, gather}
 use Rattle.bag_algebra.specs.Rewriting.{is_plain, Stands}
-use Rattle.bag_algebra.specs.WellFormed.{HasKind, WellFormed}
+use Rattle.bag_algebra.specs.WellFormed.{HasKind, WellFormed, sub_form}
 use Rattle.bag_algebra.specs.built.Forms.{EachTable-Filter, EachTable-Join, WellFormed-Filter, WellFormed-Join}
 use Rattle.bag_algebra.specs.built.Openings.{kinds_of-Filter, kinds_of-Join, meaning-Filter, meaning-Join}
 use Rattle.bag_algebra.specs.built.Scopes.{all_plain, is_plain-Filter, is_plain-Join}
@@ -29,7 +28,6 @@ use Rattle.bag_algebra.specs.declared.query.JoinKind.{JoinKind}
 use Rattle.bag_algebra.specs.declared.query.JoinKind.TheVariants.{Inner, Left}
 use Rattle.bag_algebra.specs.declared.query.Query.{Query}
 use Rattle.bag_algebra.specs.declared.query.Query.TheVariants.{Filter, Join}
-use Rattle.bag_algebra.specs.declared.query.SubKind.TheVariants.{Exists}
 use Rattle.bag_algebra.specs.declared.query.Sublink.{Sublink}
 use Rattle.contribution.proofs.Growth.{denote-closed}
 use Rattle.contribution.proofs.QueryKinds.{rows_have-kinds}
@@ -40,50 +38,15 @@ use Rattle.contribution.specs.Fitting.{Fitting}
 use Rattle.query_laws.proofs.StandingSublinks.{gather-on}
 use Rattle.rewrite_base.proofs.Itself.{stands-onward}
 use Rattle.simpler_laws.proofs.TestedQueries.{by, stands-equal}
-use Rattle.spine_joins.proofs.SpineForms.{base-formed, spine-fault_free, spine-tables}
-use Rattle.spine_joins.proofs.SpineItems.{row_by}
-use Rattle.spine_joins.proofs.SpineRows.{where_holds, spine_row, spine-rows}
-use Rattle.spine_joins.specs.Spines.{IsSpine, test_of}
+use Rattle.spine_joins.proofs.SpineForms.{base-formed, spine-fault_free, spine-faultless, spine-tables}
+use Rattle.spine_joins.proofs.SpineRows.{spine_row, spine-rows}
+use Rattle.spine_joins.specs.Spines.{IsSpine}
 use Rattle.spine_joins.specs.declared.spine.Spine.{Spine}
 use Rattle.simplifier.proofs.ForcedRows.{forced-rows}
-use Rattle.simplifier.specs.Forced.{IsForced}
+use Rattle.simplifier.proofs.AskedRows.{Holds, good-is, is-asked}
+use Rattle.simplifier.specs.Forced.{Asks, IsForced}
 
--- ---- some row is found exactly where a test is met
-
-module _ (make : Row → Row) (o : Row → Outcome Value) (calm : (v : Row) → (w : Value) × (o v ≡ Good w)) where
-  some-both : (b : Bool) (t : Row) (rest : Outcome Bag) (found : Bool) → mapped is_some_row rest ≡ Good found →
-      mapped is_some_row (both (λ y ys. y ++ ys) (Good (cond b (t ∷ []) [])) rest) ≡ Good (b || found)
-  some-both true t (Good us) found e = refl
-  some-both true t (Bad faults) found e = absurd (cc e)
-  some-both false t (Good us) found e = e
-  some-both false t (Bad faults) found e = absurd (cc e)
-
-  one-found : (t : Row) (v : Outcome Value) (w : Value) → v ≡ Good w → where_holds t v ≡ Good (cond (is_met v) (t ∷ []) [])
-  one-found t (Good x) w e = refl
-  one-found t (Bad faults) w e = absurd (cc e)
-
-  pub some-found : (vs : Bag) → mapped is_some_row (gather (λ v. where_holds (make v) (o v)) vs) ≡ Good (list_any (λ v. is_met (o v)) vs)
-  some-found [] = refl
-  some-found (v ∷ vs) =
-      (λ i. mapped is_some_row (both (λ y ys. y ++ ys) (one-found (make v) (o v) (calm v).0 (calm v).1 i) (gather (λ w. where_holds (make w) (o w)) vs)))
-      ∙ some-both (is_met (o v)) (make v) (gather (λ w. where_holds (make w) (o w)) vs) (list_any (λ w. is_met (o w)) vs) (some-found vs)
-
-exists-is : (rows : Outcome Bag) (found : Bool) → mapped is_some_row rows ≡ Good found →
-    both_then (Good Null) rows (sub_value Exists) ≡ Good (Boolean found)
-exists-is (Good us) found e = ap (mapped Boolean) e
-exists-is (Bad faults) found e = absurd (cc e)
-
-good-is : {X : Type 0} (o : Outcome (List X)) → is_good o ≡ true → (xs : List X) × (o ≡ Good xs)
-good-is (Good xs) e = (xs, refl)
-good-is (Bad faults) e = absurd (cc e)
-
-value-is : (o : Outcome Value) → is_good o ≡ true → (w : Value) × (o ≡ Good w)
-value-is (Good w) e = (w, refl)
-value-is (Bad faults) e = absurd (cc e)
-
-kept-is : (b : Bool) (u : Row) → mapped (λ v. cond (holds_of v) (u ∷ []) []) (Good (Boolean b)) ≡ Good (cond b (u ∷ []) [])
-kept-is true u = refl
-kept-is false u = refl
+-- ---- rows where a test is met
 
 gathered-filter : (found : Row → Bool) (us : Bag) → gather (λ u. Good (cond (found u) (u ∷ []) [])) us ≡ Good (filter found us)
 gathered-filter found [] = refl
@@ -94,22 +57,20 @@ gathered-filter found (u ∷ us) = ap (both (λ y ys. y ++ ys) (Good (cond (foun
 
 -- ---- the join
 
-module _ (q : Query) (sub : Sublink) (spine : Spine) (is : IsSpine (width_of q) sub.query spine) (calm : faultless (test_of spine.test) ≡ true)
-    (exists : sub.kind ≡ Exists) (none : sub.tested ≡ None) where
-  abbrev on : Expr
-  on = test_of spine.test
-
+module _ (q : Query) (sub : Sublink) (spine : Spine) (is : IsSpine (width_of q) sub.query spine) (on : Expr) (calm : faultless on ≡ true)
+    (asks : Asks sub spine on) where
   abbrev kept_rows : Query
   kept_rows = Filter q (Sub 0) (sub ∷ [])
 
   abbrev whole : Query
-  whole = Join Left (Filter q (Sub 0) (sub ∷ [])) spine.base (test_of spine.test) []
+  whole = Join Left (Filter q (Sub 0) (sub ∷ [])) spine.base on []
 
   abbrev made : Query
-  made = Join Inner q spine.base (test_of spine.test) []
+  made = Join Inner q spine.base on []
 
   module _ (outer : List (List Kind)) (db : Database) (env : List Row) (formed : WellFormed outer q) (tables : TablesFit db q) (fits : env_fits env outer ≡ true)
-      (inside : WellFormed (kinds_of q ∷ outer) sub.query) (sub_tables : TablesFit db sub.query) where
+      (inside : WellFormed (kinds_of q ∷ outer) sub.query)
+      (fitting : sub_form sub.kind sub.tested (kinds_of q ∷ outer) (kinds_of sub.query)) (sub_tables : TablesFit db sub.query) where
     base-rows : (vs : Bag) × (meaning spine.base db env ≡ Good vs)
     base-rows = good-is (meaning spine.base db env) (good-query spine.base (spine-fault_free is) db env)
 
@@ -131,10 +92,10 @@ module _ (q : Query) (sub : Sublink) (spine : Spine) (is : IsSpine (width_of q) 
     wide v h = row_fits-length v (kinds_of spine.base) (each-in (RowFits (kinds_of spine.base)) v vs (rows_have-kinds outer spine.base db env vs base-fitting base-rows.1) h).fit
 
     abbrev tested : Row → Outcome Value
-    tested x = value (test_of spine.test) x env []
+    tested x = value on x env []
 
     calmly : (x : Row) → (w : Value) × (tested x ≡ Good w)
-    calmly x = value-is (tested x) (good-value (test_of spine.test) calm x env [])
+    calmly x = good-is (tested x) (good-value on calm x env [])
 
     abbrev found : Row → Bool
     found u = list_any (λ v. is_met (tested (u ++ v))) vs
@@ -150,16 +111,15 @@ module _ (q : Query) (sub : Sublink) (spine : Spine) (is : IsSpine (width_of q) 
       right-is u h =
           spine-rows (kinds_of q) outer db env u (fits-begins u (kinds_of q) (row_fits u h).fit) (row_fits-length u (kinds_of q) (row_fits u h).fit) vs is inside (base-under u) wide
 
-      answer : (u : Row) → IsIn u us → sublink_value db env u sub ≡ Good (Boolean (found u))
-      answer u h =
-          (λ i. both_then (optional_value (none i) env u) (right-is u h i) (sub_value (exists i)))
-          ∙ exists-is (gather (λ v. spine_row spine env (u ++ v)) vs) (found u)
-          (some-found (λ v. row_by spine.items env (u ++ v)) (λ v. tested (u ++ v)) (λ v. calmly (u ++ v)) vs)
+      asked : (u : Row) → IsIn u us → Holds (sublink_value db env u sub) (found u)
+      asked u h =
+          subst (λ o. Holds (both_then (optional_value sub.tested env u) o (sub_value sub.kind)) (found u)) (sym (right-is u h))
+          (is-asked (kinds_of q) (kinds_of sub.query) outer sub spine on asks calm (spine-faultless is) env u (fits-begins u (kinds_of q) (row_fits u h).fit) fitting vs)
 
       one-kept : (u : Row) → IsIn u us → kept (condition_on (Sub 0) env (subs_denote (sub ∷ []) db env)) u ≡ Good (cond (found u) (u ∷ []) [])
       one-kept u h =
-          (λ i. mapped (λ v. cond (holds_of v) (u ∷ []) []) (and_then (both (λ v rest. v ∷ rest) (answer u h i) (Good [])) (λ answers. value (Sub 0) u env answers)))
-          ∙ kept-is (found u) u
+          (λ i. mapped (λ v. cond (holds_of v) (u ∷ []) []) (and_then (both (λ v rest. v ∷ rest) ((asked u h).good i) (Good [])) (λ answers. value (Sub 0) u env answers)))
+          ∙ ap (λ b. Good (cond b (u ∷ []) [])) (asked u h).holds
 
       filtered : meaning kept_rows db env ≡ Good (filter found us)
       filtered =
@@ -215,7 +175,7 @@ module _ (q : Query) (sub : Sublink) (spine : Spine) (is : IsSpine (width_of q) 
       let h = by (WellFormed-Filter outer q (Sub 0) (sub ∷ [])) g.left in
       let read = by (EachTable-Filter (λ id kinds. bag_fits (db id) kinds ≡ true) q (Sub 0) (sub ∷ []))
       (by (EachTable-Join (λ id kinds. bag_fits (db id) kinds ≡ true) Left kept_rows spine.base on []) t).0 in
-      same-rows outer db env h.input read.0 e h.subs.query read.1.0)
+      same-rows outer db env h.input read.0 e h.subs.query h.subs.fitting read.1.0)
 
 -- what is made of a LEFT JOIN that is forced stands for what it stands for
 pub forced-join : (q query left right rows p : Query) (kind : JoinKind) (test : Expr) (subs : List Sublink) → query ≡ Join kind left right test subs → Stands q query →
@@ -224,10 +184,9 @@ pub forced-join : (q query left right rows p : Query) (kind : JoinKind) (test : 
 forced-join q query left right rows p kind test subs is s forced rows_is p_is =
     let found = forced.finds in
     let finds = found.finds in
-    let from : query ≡ Join Left (Filter found.input (Sub 0) (found.sub ∷ [])) finds.spine.base (test_of finds.spine.test) [] =
-    is ∙ (λ i. Join (forced.keeps i) (found.is i) (sym finds.finds.base i) (sym finds.finds.test i) (forced.none i)) in
-    let to : p ≡ Join Inner found.input finds.spine.base (test_of finds.spine.test) [] =
-    p_is ∙ (λ i. Join Inner (rows_is found.input (Sub 0) (found.sub ∷ []) found.is i) (sym finds.finds.base i) (sym finds.finds.test i) (forced.none i)) in
-    stands-onward q query p s (subst (λ n. Stands n p) (sym from) (subst (Stands (Join Left (Filter found.input (Sub 0) (found.sub ∷ [])) finds.spine.base (test_of finds.spine.test) [])) (sym to)
-    (stands-forced found.input found.sub finds.spine finds.is (ap faultless finds.finds.test ∙ forced.calm) finds.exists finds.none
-    (ap is_plain (sym from) ∙ s.plain))))
+    let from : query ≡ Join Left (Filter found.input (Sub 0) (found.sub ∷ [])) finds.spine.base test [] =
+    is ∙ (λ i. Join (forced.keeps i) (found.is i) (sym finds.finds.base i) test (forced.none i)) in
+    let to : p ≡ Join Inner found.input finds.spine.base test [] =
+    p_is ∙ (λ i. Join Inner (rows_is found.input (Sub 0) (found.sub ∷ []) found.is i) (sym finds.finds.base i) test (forced.none i)) in
+    stands-onward q query p s (subst (λ n. Stands n p) (sym from) (subst (Stands (Join Left (Filter found.input (Sub 0) (found.sub ∷ [])) finds.spine.base test [])) (sym to)
+    (stands-forced found.input found.sub finds.spine finds.is test forced.calm finds.finds.asks (ap is_plain (sym from) ∙ s.plain))))

@@ -1,3 +1,4 @@
+pub mod AskedRows
 pub mod BaredNodes
 pub mod BaredSublinks
 pub mod ForcedJoins

@@ -1,30 +1,47 @@
--- A LEFT JOIN of the rows where an EXISTS is true with the rows that it looks at.
-use Rattle.std.specs.Prelude.{◌≡◌, true, List, [], ◌∷◌, None}
+-- A LEFT JOIN of the rows where an EXISTS or an ANY is true with the rows that it looks at.
+use Rattle.std.specs.Prelude.{◌≡◌, true, List, [], ◌∷◌, Some, None}
+use Rattle.null_logic.specs.declared.compare.Compare.{Compare}
+use Rattle.null_logic.specs.declared.operator.Operator.TheVariants as op
+use Rattle.null_logic.specs.declared.truth.Truth.TheVariants.{True}
 use Rattle.bag_algebra.specs.FaultFree.{faultless}
 use Rattle.bag_algebra.specs.Kinds.{width_of}
 use Rattle.bag_algebra.specs.declared.expr.Expr.{Expr}
-use Rattle.bag_algebra.specs.declared.expr.Expr.TheVariants.{Sub}
+use Rattle.bag_algebra.specs.declared.expr.Expr.TheVariants.{IsTruth, Op, Sub}
+use Rattle.bag_algebra.specs.declared.expr.Item.{Item}
 use Rattle.bag_algebra.specs.declared.query.JoinKind.{JoinKind}
 use Rattle.bag_algebra.specs.declared.query.JoinKind.TheVariants.{Left}
 use Rattle.bag_algebra.specs.declared.query.Query.{Query}
 use Rattle.bag_algebra.specs.declared.query.Query.TheVariants.{Filter}
-use Rattle.bag_algebra.specs.declared.query.SubKind.TheVariants.{Exists}
+use Rattle.bag_algebra.specs.declared.query.SubKind.TheVariants.{Any, Exists}
 use Rattle.bag_algebra.specs.declared.query.Sublink.{Sublink}
-use Rattle.spine_joins.specs.Spines.{IsSpine, test_of}
+use Rattle.spine_joins.specs.Spines.{IsSpine, tests_with}
 use Rattle.spine_joins.specs.declared.spine.Spine.{Spine}
 
--- the spine has the rows of the query on the test
-pub record IsOn (spine : Spine) (right : Query) (on : Expr) : Type 0 where
-  pub base : spine.base ≡ right
-  pub test : test_of spine.test ≡ on
+-- that a comparison of both is true
+abbrev pub compared : Compare → Expr → Expr → Expr
+compared compare one other = IsTruth True (Op (op.Compare compare) (one ∷ other ∷ []))
 
--- the sublink is an EXISTS over a spine that has the rows of the query on the test
+-- the test of the spine holds, and a comparison of what is tested with its only item
+pub record AsksAny (compare : Compare) (tested : Expr) (spine : Spine) (on : Expr) : Type 0 where
+  pub item : Item
+  pub one : spine.items ≡ item ∷ []
+  pub test : on ≡ tests_with spine.test (compared compare tested item.expr)
+
+-- the sublink, whose query is the spine, asks for the rows of its base on the test
+pub data Asks (sub : Sublink) (spine : Spine) (on : Expr) : Type 0 where
+  for_some : sub.kind ≡ Exists → sub.tested ≡ None → Some on ≡ spine.test → Asks sub spine on
+  for_any : (compare : Compare) (tested : Expr) → sub.kind ≡ Any compare → sub.tested ≡ Some tested → AsksAny compare tested spine on → Asks sub spine on
+
+-- the sublink, whose query is the spine, asks for the rows of the query on the test
+pub record IsOn (sub : Sublink) (spine : Spine) (right : Query) (on : Expr) : Type 0 where
+  pub base : spine.base ≡ right
+  pub asks : Asks sub spine on
+
+-- the sublink is over a spine, and asks for the rows of the query on the test
 pub record SubFinds (input : Query) (sub : Sublink) (right : Query) (on : Expr) : Type 0 where
   pub spine : Spine
   pub is : IsSpine (width_of input) sub.query spine
-  pub exists : sub.kind ≡ Exists
-  pub none : sub.tested ≡ None
-  pub finds : IsOn spine right on
+  pub finds : IsOn sub spine right on
 
 pub record FindsOn (left right : Query) (on : Expr) : Type 0 where
   pub input : Query

@@ -1,4 +1,4 @@
-//! A LEFT JOIN with what an EXISTS finds that the rows on the left were asked for.
+//! A LEFT JOIN with what an EXISTS or an ANY finds that the rows on the left were asked for.
 ghost use Rattle.std.specs.Prelude.{◌≡◌, List as ItemsOf, IfOk, IsTrue};
 ghost use Rattle.bag_algebra.specs.Rewriting.{Stands};
 ghost use Rattle.bag_algebra.specs.declared.expr.Expr.{Expr};
@@ -6,17 +6,17 @@ ghost use Rattle.bag_algebra.specs.declared.expr.Expr.TheVariants.{Sub};
 ghost use Rattle.bag_algebra.specs.declared.query.Query.TheVariants.{Filter};
 ghost use Rattle.bag_algebra.specs.declared.query.Query.{Query};
 ghost use Rattle.bag_algebra.specs.declared.query.Sublink.{Sublink};
-ghost use Rattle.simplifier.specs.Forced.{FindsOn, IsForced, IsOn, SubFinds};
+ghost use Rattle.simplifier.specs.Forced.{FindsOn, IsForced, SubFinds};
 
-use crate::alike::{same_expr, same_table};
-use bag_algebra::{Expr, JoinKind, Query, SubKind, Sublink, faultless};
+use crate::asked::{is_on, may_ask};
+use crate::below::spine_below;
+use bag_algebra::{Expr, JoinKind, Query, Sublink, faultless};
 use perm_values::{List, NoMemory};
 use rewrite_base::exact_width;
-use spine_joins::{Spine, spine_of};
 use std::alloc::Global;
 
-/// What stands for whatever the query stands for. A LEFT JOIN of the rows where an EXISTS is true with the table that it looks at,
-/// on the same test, is the inner join of all rows, below a projection too. It fails where the query failed, and for want of memory.
+/// What stands for whatever the query stands for. A LEFT JOIN of the rows where an EXISTS or an ANY is true with the table that it
+/// looks at, on what it asks for, is the inner join of all rows, below a projection too. It fails where the query failed, and for want of memory.
 pub(crate) fn forced(alloc: Global, query: Result<Query, NoMemory>) -> Result<Query, NoMemory>
     ensures { (q : Query) → IfOk query (λ b. Stands q b) → IfOk result (λ p. Stands q p) }
 {
@@ -104,7 +104,7 @@ fn is_forced(
     finds(alloc, left, right, on)
 }
 
-/// Whether the query is a filter on an EXISTS alone, which finds the rows of the other on the test.
+/// Whether the query is a filter on an EXISTS or an ANY alone, which asks for the rows of the other on the test.
 fn finds(alloc: Global, left: &Query, right: &Query, on: &Expr) -> Result<bool, NoMemory>
     ensures { IfOk result (λ found. IsTrue found → FindsOn left.now right.now on.now) }
 {
@@ -133,7 +133,7 @@ fn is_first(expr: &Expr) -> bool
     matches!(expr, Expr::Sub { number: 0 })
 }
 
-/// Whether the sublink is an EXISTS beside rows of the input that finds the rows of the other query on the test.
+/// Whether the sublink beside rows of the input asks for the rows of the other query on the test.
 fn only_finds(
     alloc: Global,
     input: &Query,
@@ -143,22 +143,12 @@ fn only_finds(
 ) -> Result<bool, NoMemory>
     ensures { IfOk result (λ found. IsTrue found → SubFinds input.now sub.now right.now on.now) }
 {
-    if !matches!(sub.kind, SubKind::Exists) || sub.tested.is_some() {
+    if !may_ask(sub.kind) {
         return Ok(false);
     }
     let width = exact_width(input)?;
-    match spine_of(alloc, &sub.query, width)? {
-        Some(spine) => Ok(is_on(&spine, right, on)),
+    match spine_below(alloc, &sub.query, width)? {
+        Some(spine) => Ok(is_on(sub, &spine, right, on)),
         None => Ok(false),
-    }
-}
-
-/// Whether the spine has the rows of the query on the test.
-fn is_on(spine: &Spine, right: &Query, on: &Expr) -> bool
-    ensures { IsTrue result → IsOn spine.now right.now on.now }
-{
-    match &spine.test {
-        Some(test) => same_table(&spine.base, right) && same_expr(test, on),
-        None => false,
     }
 }

@@ -2,7 +2,9 @@
 #![tactic(auto)]
 
 mod alike;
+mod asked;
 mod bare;
+mod below;
 mod folding;
 mod forced;
 mod passes;

@@ -1,14 +1,9 @@
-use Rattle.std.proofs.Common.{◌≡◌, ◌≤◌, ◌<◌, List, [], ◌∷◌, length, get_or, ap, sym, ◌∙◌, subst, arith}
+use Rattle.std.proofs.Common.{sym, ◌∙◌, subst}
 use Rattle.std.proofs.lemmas.Result.{IfOk-weaker}
 use Rattle.bag_algebra.specs.declared.query.Query.TheVariants.{Filter}
 use Rattle.simplifier.specs.Forced.{SubFinds}
+use Rattle.simplifier.proofs.AskedRows.{only}
 use Rattle.simplifier.proofs.forced.finds.Goals as goal
-
--- a list of one
-only : {X : Type 0} (xs : List X) (x : X) → 1 ≤ length xs → length xs < 2 → x ≡ get_or xs 0 x → xs ≡ x ∷ []
-only [] x h k e = absurd (omega (arith, h))
-only (y ∷ []) x h k e = ap (λ z. z ∷ []) (sym e)
-only (y ∷ z ∷ xs) x h k e = absurd (omega (arith, k))
 
 pub returns-in-len1 : goal.returns-in-len1
 returns-in-len1 c =
