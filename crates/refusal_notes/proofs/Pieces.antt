@@ -2,7 +2,7 @@
 use Rattle.std.proofs.Common.{◌≡◌, ◌∙◌, ℕ, ◌+◌, ◌≤◌, List, [], ◌∷◌, ◌++◌, length, take, drop, reverse, refl, ap, arith, append-nil, length-append}
 use Rattle.std.proofs.lemmas.List.{length-take, take_all}
 use Rattle.std.proofs.Math.Seq.{drop-length}
-use Rattle.script_places.specs.Places.{back_to_feed, line_at, up_to_feed}
+use Rattle.refusal_notes.specs.places.Places.{back_to_feed, line_at, up_to_feed}
 use Rattle.refusal_notes.specs.Excerpts.{continued}
 
 pub last_line_is : (before : List ℕ) → line_at before (length before) ≡ reverse (back_to_feed before)

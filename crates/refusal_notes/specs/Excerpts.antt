@@ -1,7 +1,7 @@
 -- The piece of a script's line that is shown of it, and the mark under a place.
 use Rattle.std.specs.Prelude.{ℕ, ◌+◌, ◌-◌, ◌==◌, nat_lt, nat_le, Bool, cond, not, ◌&&◌, ◌||◌, List, [], ◌++◌, length, take, drop, reverse, map, filter, codes}
 use Rattle.std.specs.List.{take_while}
-use Rattle.script_places.specs.Places.{begins_character, back_to_feed, up_to_feed}
+use Rattle.refusal_notes.specs.places.Places.{begins_character, back_to_feed, up_to_feed}
 
 -- how many bytes are shown to each side of the place, at about
 abbrev pub side : ℕ

@@ -4,7 +4,7 @@ use Rattle.std.specs.Fmt.{decimal}
 use Rattle.csv_tables.specs.Lines.{two_digits}
 use Rattle.csv_tables.specs.declared.data_error.DataError.{DataError}
 use Rattle.csv_tables.specs.declared.data_error.DataError.TheVariants.{Width, NotInteger, NotText, NoMemory}
-use Rattle.script_places.specs.Places.{column_of, line_of}
+use Rattle.refusal_notes.specs.places.Places.{column_of, line_of}
 use Rattle.refusal_notes.specs.declared.cause.Cause.{Cause}
 use Rattle.refusal_notes.specs.declared.cause.Cause.TheVariants.{At, NoScript, LongScript, Data, Unread}
 use Rattle.refusal_notes.specs.Excerpts.{excerpt, shown}

@@ -1,11 +1,11 @@
 //! A piece of the line of an offset, and a mark under its column.
 ghost use Rattle.std.specs.Prelude.{◌≡◌, ◌≤◌, ◌+◌, ◌++◌, IfOk, OnOk, length, take, drop, reverse, map, filter};
-ghost use Rattle.script_places.specs.Places.{back_to_feed, begins_character};
+ghost use Rattle.refusal_notes.specs.places.Places.{back_to_feed, begins_character};
 ghost use Rattle.refusal_notes.specs.Excerpts.{behind_at, behind_piece, blank, continued, excerpt, front_at, front_piece, shown};
 
 use crate::read::from;
 use perm_values::{Bytes, NoMemory};
-use script_places::line_at;
+use crate::places::line_at;
 use std::alloc::Global;
 
 /// How many bytes of the line are shown to each side of the place, at about.

@@ -6,9 +6,11 @@ mod cause;
 mod excerpt;
 mod line;
 mod notes;
+mod places;
 mod read;
 mod sentence;
 
 pub use cause::Cause;
 pub use notes::note;
+pub use places::{characters_have_places_of_their_own, line_at};
 pub use read::cause_of;

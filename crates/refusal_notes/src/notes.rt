@@ -12,7 +12,7 @@ use crate::sentence::sentence;
 use csv_tables::DataError;
 use itoa::Buffer;
 use perm_values::{Bytes, NoMemory};
-use script_places::place_of;
+use crate::places::place_of;
 use std::alloc::Global;
 
 /// The note on a cause, with the name of the file that it speaks of, and of one at an offset the script. A number that no cause has

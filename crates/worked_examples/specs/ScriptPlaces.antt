@@ -2,7 +2,7 @@
 --     ab
 --     éx é      (195 169 120 32 195 169)
 use Rattle.std.specs.Prelude.{◌≡◌, ℕ, List, [], ◌∷◌, ◌++◌, refl, codes}
-use Rattle.script_places.specs.Places.{line_of, column_of, line_at}
+use Rattle.refusal_notes.specs.places.Places.{line_of, column_of, line_at}
 
 abbrev script : List ℕ
 script = codes "ab\n" ++ 195 ∷ 169 ∷ codes "x " ++ 195 ∷ 169 ∷ codes "\n"

@@ -1,6 +1,6 @@
 use Rattle.std.proofs.Common.{◌≡◌, ◌++◌, take, drop}
-use Rattle.script_places.specs.Places.{up_to_feed}
-use Rattle.script_places.proofs.line.line_length.Given as goal
+use Rattle.refusal_notes.specs.places.Places.{up_to_feed}
+use Rattle.refusal_notes.proofs.places.line.line_length.Given as goal
 
 -- none of the bytes so far is a line feed
 abbrev pub invariant-loop-at : goal.invariant-loop-at

@@ -1,8 +1,8 @@
 //! The text of the line on which an offset stands.
 ghost use Rattle.std.specs.Prelude.{◌≡◌, ◌≤◌, length, take, drop, reverse};
-ghost use Rattle.script_places.specs.Places.{is_feed, back_to_feed, up_to_feed, line_at};
+ghost use Rattle.refusal_notes.specs.places.Places.{is_feed, back_to_feed, up_to_feed, line_at};
 
-use crate::place::is_feed;
+use crate::places::place::is_feed;
 
 /// The line of the byte at the offset, from 0, without its line feed; the last line, where the script ends before.
 pub fn line_at(script: &[u8], offset: usize) -> &[u8]

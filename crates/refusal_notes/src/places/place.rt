@@ -1,6 +1,6 @@
 //! The line and the column of an offset.
 ghost use Rattle.std.specs.Prelude.{◌≡◌, ◌<◌, ◌^◌, suc, cond};
-ghost use Rattle.script_places.specs.Places.{is_feed, begins_character, line_behind, column_behind, column_after, line_of, column_of};
+ghost use Rattle.refusal_notes.specs.places.Places.{is_feed, begins_character, line_behind, column_behind, column_after, line_of, column_of};
 
 /// A place as a person counts: the line from 1, and in it the character from 1.
 #[derive(Clone, Copy, PartialEq, Eq)]

@@ -1,5 +1,4 @@
 //! Where an offset stands in a script: the line and the column, as a person counts them.
-#![tactic(auto)]
 
 mod laws;
 mod line;

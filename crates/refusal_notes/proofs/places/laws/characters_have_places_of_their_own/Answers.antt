@@ -1,5 +1,5 @@
-use Rattle.script_places.proofs.Columns.{lines-follow, columns-follow}
-use Rattle.script_places.proofs.laws.characters_have_places_of_their_own.Goals as goal
+use Rattle.refusal_notes.proofs.places.Columns.{lines-follow, columns-follow}
+use Rattle.refusal_notes.proofs.places.laws.characters_have_places_of_their_own.Goals as goal
 
 pub returns-clause-lines : goal.returns-clause-lines
 returns-clause-lines c = lines-follow

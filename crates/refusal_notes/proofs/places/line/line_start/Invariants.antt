@@ -1,6 +1,6 @@
 use Rattle.std.proofs.Common.{◌≡◌, ◌≤◌, take, drop, reverse}
-use Rattle.script_places.specs.Places.{back_to_feed}
-use Rattle.script_places.proofs.line.line_start.Given as goal
+use Rattle.refusal_notes.specs.places.Places.{back_to_feed}
+use Rattle.refusal_notes.proofs.places.line.line_start.Given as goal
 
 -- the last line of the bytes so far begins there
 abbrev pub invariant-loop-at : goal.invariant-loop-at

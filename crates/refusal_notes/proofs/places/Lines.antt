@@ -3,7 +3,7 @@ use Rattle.std.proofs.Common.{refl, sym, arith, ◌∙◌, ap, ◌≡◌, ◌<�
 use Rattle.std.proofs.Math.Seq.{take-suc, take-add, drop-length}
 use Rattle.std.proofs.lemmas.List.{reverse-append, drop-append-le, length-take-le, drop-take}
 use Rattle.std.proofs.lemmas.List.Sums.{take_while-cons}
-use Rattle.script_places.specs.Places.{is_feed, back_to_feed}
+use Rattle.refusal_notes.specs.places.Places.{is_feed, back_to_feed}
 
 back-snoc : (before : List ℕ) (byte : ℕ) → back_to_feed (before ++ byte ∷ []) ≡ cond (not (is_feed byte)) (byte ∷ back_to_feed before) []
 back-snoc before byte = rw (reverse-append before (byte ∷ [])) (take_while-cons (λ b. not (is_feed b)) byte (reverse before))

@@ -1,7 +1,7 @@
 use Rattle.std.proofs.Common.{◌∙◌, sym, arith}
-use Rattle.script_places.proofs.Lines.{start-feed, start-other}
-use Rattle.script_places.proofs.line.line_start.Goals.{then-is_feed, else-is_feed}
-use Rattle.script_places.proofs.line.line_start.Goals as goal
+use Rattle.refusal_notes.proofs.places.Lines.{start-feed, start-other}
+use Rattle.refusal_notes.proofs.places.line.line_start.Goals.{then-is_feed, else-is_feed}
+use Rattle.refusal_notes.proofs.places.line.line_start.Goals as goal
 
 pub loop-at-preserved : goal.loop-at-preserved
 loop-at-preserved c =

@@ -1,8 +1,8 @@
 use Rattle.std.proofs.Common.{◌∙◌, ◌≡◌, ◌++◌, ◌-◌, ap, arith, drop, length, reverse, take}
 use Rattle.std.proofs.lemmas.List.{length-take-le, length-drop, take_all}
-use Rattle.script_places.specs.Places.{back_to_feed}
-use Rattle.script_places.proofs.Lines.{between}
-use Rattle.script_places.proofs.line.line_at.Goals as goal
+use Rattle.refusal_notes.specs.places.Places.{back_to_feed}
+use Rattle.refusal_notes.proofs.places.Lines.{between}
+use Rattle.refusal_notes.proofs.places.line.line_at.Goals as goal
 
 pub returns-then-offset-script : goal.returns-then-offset-script
 returns-then-offset-script c =

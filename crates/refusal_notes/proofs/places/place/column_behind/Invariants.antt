@@ -1,6 +1,6 @@
 use Rattle.std.proofs.Common.{◌≡◌, ◌≤◌, suc, take}
-use Rattle.script_places.specs.Places.{column_behind}
-use Rattle.script_places.proofs.place.column_behind.Given as goal
+use Rattle.refusal_notes.specs.places.Places.{column_behind}
+use Rattle.refusal_notes.proofs.places.place.column_behind.Given as goal
 
 -- the column behind the bytes so far
 abbrev pub invariant-loop-byte : goal.invariant-loop-byte

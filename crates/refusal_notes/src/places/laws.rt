@@ -1,6 +1,6 @@
 //! Each character of a script has a place of its own: the law is the contract of a function that does nothing.
 ghost use Rattle.std.specs.Prelude.{◌≡◌, ◌<◌, ◌≤◌, ℕ, true, List, length, get_or};
-ghost use Rattle.script_places.specs.Places.{begins_character, line_of, column_of};
+ghost use Rattle.refusal_notes.specs.places.Places.{begins_character, line_of, column_of};
 
 /// An offset behind that of a character is on no earlier line, and on the same line in a further column.
 pub fn characters_have_places_of_their_own()

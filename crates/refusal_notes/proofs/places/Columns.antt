@@ -4,7 +4,7 @@ use Rattle.std.specs.List.{count_by}
 use Rattle.std.proofs.Math.Seq.{take-suc}
 use Rattle.std.proofs.lemmas.List.{reverse-append}
 use Rattle.std.proofs.lemmas.List.Sums.{sum_by-cons, take_while-cons, count_by_more_yes, count_by_more_no}
-use Rattle.script_places.specs.Places.{is_feed, begins_character, back_to_feed, column_behind, column_after, line_of, column_of}
+use Rattle.refusal_notes.specs.places.Places.{is_feed, begins_character, back_to_feed, column_behind, column_after, line_of, column_of}
 
 one-more : (byte : ℕ) (back : List ℕ) → count_by begins_character (byte ∷ back) ≡ cond (begins_character byte) 1 0 + count_by begins_character back
 one-more byte back = sum_by-cons (λ b. cond (begins_character b) 1 0) byte back

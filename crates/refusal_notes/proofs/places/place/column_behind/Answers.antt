@@ -1,5 +1,5 @@
-use Rattle.script_places.proofs.Columns.{column-stays}
-use Rattle.script_places.proofs.place.column_behind.Goals as goal
+use Rattle.refusal_notes.proofs.places.Columns.{column-stays}
+use Rattle.refusal_notes.proofs.places.place.column_behind.Goals as goal
 
 pub loop-byte-preserved : goal.loop-byte-preserved
 loop-byte-preserved c =
