@@ -5,5 +5,6 @@ pub mod Gathered
 pub mod InnerJoins
 pub mod Parting
 pub mod Reading
+pub mod StandingParts
 pub mod TestedQueries
 pub mod Testing

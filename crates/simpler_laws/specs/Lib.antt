@@ -5,3 +5,4 @@ pub mod Reads
 pub mod Sides
 pub mod Tested
 pub mod built
+pub mod standing

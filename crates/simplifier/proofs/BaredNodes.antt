@@ -26,7 +26,7 @@ use Rattle.query_laws.proofs.StandingNodes.{stands-Filter, stands-Project, stand
 use Rattle.query_laws.specs.Standing.{SubsStand}
 use Rattle.rewrite_base.proofs.Itself.{stands-itself, stands-onward, stands-Single}
 use Rattle.simpler_laws.proofs.TestedQueries.{by, stands-same}
-use Rattle.standing_nodes.proofs.Standing.{where_made}
+use Rattle.simpler_laws.proofs.StandingParts.{where_made}
 use Rattle.simplifier.proofs.BaredSublinks.{bared-answers, bared-form, bared-kinds, bared-plain, bared-tables}
 use Rattle.simplifier.specs.Bare.{AllBared, SubsStandBared}
 

@@ -26,7 +26,7 @@ use Rattle.simpler_laws.specs.Sides.{IsSplit}
 use Rattle.simpler_laws.specs.Tested.{tested}
 use Rattle.simpler_laws.specs.declared.filters.Parts.{Parts}
 use Rattle.simpler_laws.specs.declared.pairs.Sides.{Sides}
-use Rattle.standing_nodes.proofs.Standing.{first_of, second_of}
+use Rattle.simpler_laws.proofs.StandingParts.{first_of, second_of}
 
 module _ (query input : Query) (condition : Expr) (subs : List Sublink) (tests : List Expr) (is : query ≡ Filter input condition subs)
     (plain : is_plain query ≡ true) (safe : all_parts_faultless tests ≡ true) where

@@ -3,8 +3,8 @@ use Rattle.std.proofs.Common.{◌≡◌, true, ◌&&◌, not, Result, IfOk, ap, 
 use Rattle.perm_values.proofs.Taken.{opened}
 use Rattle.perm_values.specs.declared.no_memory.NoMemory.{NoMemory}
 use Rattle.bag_algebra.specs.declared.query.Query.{Query}
-use Rattle.standing_nodes.proofs.Standing.{where_made}
-use Rattle.standing_nodes.specs.Made.{IsMade, IsMadeOfBoth}
+use Rattle.simpler_laws.proofs.StandingParts.{where_made}
+use Rattle.simpler_laws.specs.standing.Made.{IsMade, IsMadeOfBoth}
 use Rattle.merged_nodes.specs.Once.{IsMadeOnce, itself, over}
 use Rattle.folded_literals.specs.Simple.{is_simple}
 use Rattle.folded_literals.specs.built.Simple.{simple-Distinct}

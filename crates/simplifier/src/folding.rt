@@ -11,7 +11,7 @@ use bag_algebra::{Query, Sublink};
 use folded_literals::{add_folded, aggregate_folded, filter_folded, join_folded, project_folded};
 use merged_nodes::distinct_once;
 use perm_values::{List, NoMemory};
-use standing_nodes::{
+use simpler_laws::{
     apply_standing, except_standing, intersect_standing, limit_standing, table, union_standing,
 };
 use std::alloc::Global;

@@ -14,8 +14,7 @@ use bag_algebra::{Expr, JoinKind, Query, Sublink};
 use merged_nodes::inner_pairs;
 use perm_values::{List, NoMemory};
 use raised_projects::{filter_raised, join_raised};
-use simpler_laws::{filter_on, tested};
-use standing_nodes::{filter_standing, join_standing};
+use simpler_laws::{filter_on, filter_standing, join_standing, tested};
 use std::alloc::Global;
 
 /// The rows of a query of which all tests are true, over what stands for the query. It fails where that failed, and for want of

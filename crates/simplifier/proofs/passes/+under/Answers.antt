@@ -15,7 +15,7 @@ use Rattle.contribution.specs.Conjunctions.{all_hold}
 use Rattle.simpler_laws.specs.Lowered.{IsLowered}
 use Rattle.simpler_laws.specs.Tested.{tested}
 use Rattle.simplifier.proofs.Passing.{filter-input, filter-subs, only-safe, only-passes, quiet-safe, quiet-passes, project-input, project-safe, project-passes, join-left, join-right, left-safe, right-safe, join-passes}
-use Rattle.standing_nodes.proofs.Standing.{where_made, stands_made, stands_where, one_of, first_of, second_of, at_each}
+use Rattle.simpler_laws.proofs.StandingParts.{where_made, stands_made, stands_where, one_of, first_of, second_of, at_each}
 use Rattle.simplifier.proofs.passes.+under.Goals as goal
 
 pub node-under-requires : goal.node-under-requires

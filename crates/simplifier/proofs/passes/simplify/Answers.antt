@@ -1,7 +1,7 @@
 use Rattle.std.proofs.Common.{◌≡◌, true}
 use Rattle.bag_algebra.specs.Rewriting.{is_plain, Stands}
 use Rattle.rewrite_base.proofs.Itself.{stands-onward}
-use Rattle.standing_nodes.proofs.Standing.{where_made}
+use Rattle.simpler_laws.proofs.StandingParts.{where_made}
 use Rattle.simplifier.proofs.passes.simplify.Goals as goal
 
 pub lowered_tests-requires : goal.lowered_tests-requires

@@ -7,7 +7,7 @@ use Rattle.query_laws.proofs.StandingNodes.{stands-Join}
 use Rattle.query_laws.specs.Standing.{SubsStand}
 use Rattle.contribution.proofs.NodeQueries.{of_made}
 use Rattle.perm_values.proofs.Taken.{opened}
-use Rattle.standing_nodes.proofs.nodes.join_standing.Goals as goal
+use Rattle.simpler_laws.proofs.standing.nodes.join_standing.Goals as goal
 
 pub returns : goal.returns
 returns c q r originals h i k =

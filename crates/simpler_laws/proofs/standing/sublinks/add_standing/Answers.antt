@@ -4,8 +4,8 @@ use Rattle.query_laws.proofs.SameExpressions.{optional-itself}
 use Rattle.query_laws.specs.SameExpressions.{SameOptional}
 use Rattle.query_laws.specs.Standing.{SubsStand}
 use Rattle.perm_values.proofs.Taken.{opened}
-use Rattle.standing_nodes.proofs.Standing.{appended, stand-more}
-use Rattle.standing_nodes.proofs.sublinks.add_standing.Goals as goal
+use Rattle.simpler_laws.proofs.StandingParts.{appended, stand-more}
+use Rattle.simpler_laws.proofs.standing.sublinks.add_standing.Goals as goal
 
 pub returns : goal.returns
 returns c subs h k =

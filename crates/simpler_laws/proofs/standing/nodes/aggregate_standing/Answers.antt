@@ -6,7 +6,7 @@ use Rattle.query_laws.proofs.SameExpressions.{aggregates-themselves}
 use Rattle.query_laws.proofs.StandingNodes.{stands-Aggregate}
 use Rattle.contribution.proofs.NodeQueries.{of_made}
 use Rattle.perm_values.proofs.Taken.{opened}
-use Rattle.standing_nodes.proofs.nodes.aggregate_standing.Goals as goal
+use Rattle.simpler_laws.proofs.standing.nodes.aggregate_standing.Goals as goal
 
 pub returns : goal.returns
 returns c q h =

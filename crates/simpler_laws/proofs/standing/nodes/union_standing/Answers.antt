@@ -4,8 +4,8 @@ use Rattle.bag_algebra.specs.declared.query.Query.TheVariants.{Union}
 use Rattle.query_laws.proofs.StandingNodes.{stands-Union}
 use Rattle.contribution.proofs.NodeQueries.{of_made}
 use Rattle.perm_values.proofs.Taken.{opened}
-use Rattle.standing_nodes.specs.Made.{IsMadeOfBoth}
-use Rattle.standing_nodes.proofs.nodes.union_standing.Goals as goal
+use Rattle.simpler_laws.specs.standing.Made.{IsMadeOfBoth}
+use Rattle.simpler_laws.proofs.standing.nodes.union_standing.Goals as goal
 
 pub returns-clause-stands : goal.returns-clause-stands
 returns-clause-stands c q r h i =

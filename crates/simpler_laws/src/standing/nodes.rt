@@ -6,7 +6,7 @@ ghost use Rattle.bag_algebra.specs.declared.query.Query.TheVariants.{Table, Filt
 ghost use Rattle.bag_algebra.specs.declared.query.Query.{Query};
 ghost use Rattle.bag_algebra.specs.declared.query.Sublink.{Sublink};
 ghost use Rattle.query_laws.specs.Standing.{SubsStand};
-ghost use Rattle.standing_nodes.specs.Made.{IsMade, IsMadeOfBoth};
+ghost use Rattle.simpler_laws.specs.standing.Made.{IsMade, IsMadeOfBoth};
 
 use bag_algebra::{Aggr, Expr, Item, JoinKind, Query, Sublink};
 use perm_values::{Copyable, Key, Kind, List, NoMemory, both, four, three};

@@ -5,8 +5,8 @@ use Rattle.bag_algebra.specs.declared.query.Query.TheVariants.{Limit}
 use Rattle.query_laws.proofs.StandingNodes.{stands-Limit}
 use Rattle.contribution.proofs.NodeQueries.{of_made}
 use Rattle.perm_values.proofs.Taken.{opened}
-use Rattle.standing_nodes.specs.Made.{IsMade}
-use Rattle.standing_nodes.proofs.nodes.limit_standing.Goals as goal
+use Rattle.simpler_laws.specs.standing.Made.{IsMade}
+use Rattle.simpler_laws.proofs.standing.nodes.limit_standing.Goals as goal
 
 pub returns-clause-stands : goal.returns-clause-stands
 returns-clause-stands c q h =

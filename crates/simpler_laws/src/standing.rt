@@ -1,5 +1,4 @@
 //! Nodes over what stands for their parts, taken as the results of the calls that make these.
-#![tactic(auto)]
 
 mod nodes;
 mod sublinks;
