@@ -33,16 +33,16 @@ use Rattle.contribution.specs.Conjunctions.{always}
 use Rattle.monotone_queries.specs.Monotone.{is_monotone}
 use Rattle.query_laws.proofs.Once.{holds_once-once}
 use Rattle.query_laws.specs.Holding.{HoldsOnce}
-use Rattle.impact_laws.specs.Doomed.{doomed_on, is_doomed, after_deletion, places_over}
-use Rattle.impact_laws.specs.Vanishing.{Vanishes}
-use Rattle.impact_laws.proofs.Below.{below-within}
-use Rattle.impact_laws.proofs.KeptQueries.{KeptRows}
-use Rattle.impact_laws.proofs.VanishingRows.{kept-of}
+use Rattle.delete_impact.specs.vanishing.Doomed.{doomed_on, is_doomed, after_deletion, places_over}
+use Rattle.delete_impact.specs.vanishing.Vanishing.{Vanishes}
+use Rattle.delete_impact.proofs.Below.{below-within}
+use Rattle.delete_impact.proofs.KeptQueries.{KeptRows}
+use Rattle.delete_impact.proofs.VanishingRows.{kept-of}
 use Rattle.delete_impact.specs.Answering.{adds_none, condition_or_true, looked_through, lost, never, no_row_of, vanishing, with_faults}
-use Rattle.reduced_queries.specs.Reads.{Unread, IsRead, first_kinds}
-use Rattle.reduced_queries.specs.Hiding.{hides_none}
-use Rattle.reduced_queries.specs.Reduced.{behind, missing, missing_part, over_rows, reduced}
-use Rattle.reduced_queries.specs.Splitting.{splits}
+use Rattle.delete_impact.specs.reduced.Reads.{Unread, IsRead, first_kinds}
+use Rattle.delete_impact.specs.reduced.Hiding.{hides_none}
+use Rattle.delete_impact.specs.reduced.Reduced.{behind, missing, missing_part, over_rows, reduced}
+use Rattle.delete_impact.specs.reduced.Splitting.{splits}
 use Rattle.delete_impact.specs.Impact.{IsImpact}
 use Rattle.monotone_queries.specs.Conditions.{ConditionFits}
 use Rattle.delete_impact.proofs.BothParts.{both-bad, parts-above}
@@ -50,10 +50,10 @@ use Rattle.delete_impact.proofs.Conditions.{each-item, emptied}
 use Rattle.delete_impact.proofs.FewerFaults.{bad-above, fewer-below, fewer-part}
 use Rattle.delete_impact.proofs.LookedThrough.{meaning-no_row, good-both, bad-both}
 use Rattle.delete_impact.proofs.WithFaults.{either, plain-with_faults, tables-with_faults, formed-with_faults, meaning-with_faults}
-use Rattle.reduced_queries.proofs.BehindRows.{meaning-behind, kinds-behind, plain-behind, tables-behind, formed-behind}
-use Rattle.reduced_queries.proofs.MissingRows.{meaning-missing, meaning-missing_part, kinds-missing, kinds-missing_part, plain-missing, plain-missing_part, tables-missing, tables-missing_part, formed-missing, formed-missing_part}
-use Rattle.reduced_queries.proofs.ReadKinds.{none-unread, found-contained, found-is_read}
-use Rattle.reduced_queries.proofs.OverRowsForms.{plain-monotone, OnTables}
+use Rattle.delete_impact.proofs.reduced.BehindRows.{meaning-behind, kinds-behind, plain-behind, tables-behind, formed-behind}
+use Rattle.delete_impact.proofs.reduced.MissingRows.{meaning-missing, meaning-missing_part, kinds-missing, kinds-missing_part, plain-missing, plain-missing_part, tables-missing, tables-missing_part, formed-missing, formed-missing_part}
+use Rattle.delete_impact.proofs.reduced.ReadKinds.{none-unread, found-contained, found-is_read}
+use Rattle.delete_impact.proofs.reduced.OverRowsForms.{plain-monotone, OnTables}
 use Rattle.delete_impact.proofs.ReducedRows.{going-rows, reduced-rows, part_of}
 
 -- ---- where the table isn't read

@@ -29,11 +29,11 @@ use Rattle.contribution.proofs.SharedMembers.{Within}
 use Rattle.contribution.proofs.TablesRead.{denote-equal_tables}
 use Rattle.monotone_queries.specs.Monotone.{is_monotone, is_relation, is_whole_table}
 use Rattle.monotone_queries.proofs.Nodes.{whole_table-is}
-use Rattle.impact_laws.proofs.Below.{gather-fewer, each-fewer, pairs-fewer, mapped-fewer, unpadded-fewer}
-use Rattle.reduced_queries.specs.Hiding.{hides_none}
-use Rattle.reduced_queries.specs.Reads.{first_kinds}
-use Rattle.reduced_queries.specs.Splitting.{lacks, splits}
-use Rattle.reduced_queries.proofs.ReadKinds.{none-unread}
+use Rattle.delete_impact.proofs.Below.{gather-fewer, each-fewer, pairs-fewer, mapped-fewer, unpadded-fewer}
+use Rattle.delete_impact.specs.reduced.Hiding.{hides_none}
+use Rattle.delete_impact.specs.reduced.Reads.{first_kinds}
+use Rattle.delete_impact.specs.reduced.Splitting.{lacks, splits}
+use Rattle.delete_impact.proofs.reduced.ReadKinds.{none-unread}
 use Rattle.delete_impact.proofs.FewerFaults.{then-below, both-below, calm-first, good-kept, good-items, good-pairs, united, each_once}
 use Rattle.delete_impact.proofs.ReducedRows.{none-denoted, pairs, filter-alone, project-alone, join-alone, part_of}
 

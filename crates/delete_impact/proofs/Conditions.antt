@@ -11,8 +11,8 @@ use Rattle.bag_algebra.specs.Outcome.{Outcome, Good, Bad, mapped, both, gather, 
 use Rattle.bag_algebra.specs.built.Openings.{value-IsTruth}
 use Rattle.bag_algebra.specs.declared.expr.Expr.{Expr}
 use Rattle.bag_algebra.specs.declared.expr.Expr.TheVariants.{IsTruth}
-use Rattle.impact_laws.specs.Doomed.{is_doomed}
-use Rattle.reduced_queries.specs.Reduced.{not_true}
+use Rattle.delete_impact.specs.vanishing.Doomed.{is_doomed}
+use Rattle.delete_impact.specs.reduced.Reduced.{not_true}
 use Rattle.delete_impact.proofs.Tested.{holds-boolean, is_false}
 
 -- ---- faults alone

@@ -26,8 +26,8 @@ use Rattle.contribution.proofs.SetsOfRows.{Below, below_good, below_bad, below_w
 use Rattle.contribution.proofs.SharedMembers.{Within}
 use Rattle.monotone_queries.specs.Monotone.{is_monotone, is_relation, is_whole_table}
 use Rattle.monotone_queries.proofs.Nodes.{whole_table-is}
-use Rattle.impact_laws.proofs.Below.{gather-fewer, each-fewer, pairs-fewer, mapped-fewer, once-fewer, union-fewer, unpadded-fewer}
-use Rattle.reduced_queries.specs.Hiding.{hides_none}
+use Rattle.delete_impact.proofs.Below.{gather-fewer, each-fewer, pairs-fewer, mapped-fewer, once-fewer, union-fewer, unpadded-fewer}
+use Rattle.delete_impact.specs.reduced.Hiding.{hides_none}
 use Rattle.delete_impact.proofs.ReducedRows.{none-denoted, pairs, filter-alone, project-alone, join-alone, part_of}
 
 -- ---- outcomes

@@ -15,7 +15,7 @@ use Rattle.bag_algebra.specs.declared.query.Query.TheVariants.{Table}
 use Rattle.contribution.proofs.NodeQueries.{meaning-chosen, meaning-projected}
 use Rattle.contribution.proofs.Padding.{null_items-kinds, null_items-formed}
 use Rattle.contribution.specs.NullItems.{null_item}
-use Rattle.impact_laws.specs.Doomed.{doomed_on}
+use Rattle.delete_impact.specs.vanishing.Doomed.{doomed_on}
 use Rattle.delete_impact.specs.Answering.{never, no_row_of, looked_through}
 use Rattle.delete_impact.proofs.Conditions.{emptied, emptied-kept}
 

@@ -21,8 +21,8 @@ use Rattle.bag_algebra.specs.built.Scopes.{is_plain-Union}
 use Rattle.bag_algebra.specs.declared.expr.Expr.{Expr}
 use Rattle.bag_algebra.specs.declared.query.Query.{Query}
 use Rattle.bag_algebra.specs.declared.query.Query.TheVariants.{Union}
-use Rattle.impact_laws.specs.Doomed.{doomed_on}
-use Rattle.reduced_queries.proofs.BehindRows.{by}
+use Rattle.delete_impact.specs.vanishing.Doomed.{doomed_on}
+use Rattle.delete_impact.proofs.reduced.BehindRows.{by}
 use Rattle.delete_impact.specs.Answering.{looked_through, with_faults}
 use Rattle.delete_impact.proofs.Conditions.{emptied}
 use Rattle.delete_impact.proofs.LookedThrough.{meaning-looked_through, kinds-looked_through, formed-looked_through}

@@ -13,9 +13,9 @@ use Rattle.bag_algebra.specs.declared.query.Query.{Query, end_of-Sublink}
 use Rattle.bag_algebra.specs.declared.query.Query.TheVariants.{Table, Union}
 use Rattle.contribution.specs.Conjunctions.{always}
 use Rattle.contribution.specs.NullItems.{null_item}
-use Rattle.reduced_queries.specs.Hiding.{hides_none}
-use Rattle.reduced_queries.specs.Reduced.{behind, missing, missing_part}
-use Rattle.reduced_queries.specs.Splitting.{splits}
+use Rattle.delete_impact.specs.reduced.Hiding.{hides_none}
+use Rattle.delete_impact.specs.reduced.Reduced.{behind, missing, missing_part}
+use Rattle.delete_impact.specs.reduced.Splitting.{splits}
 
 -- every row is doomed where there is no condition
 abbrev pub condition_or_true : Option Expr → Expr

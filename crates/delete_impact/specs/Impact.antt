@@ -11,10 +11,10 @@ use Rattle.bag_algebra.specs.TablesRead.{ReadsAmong}
 use Rattle.bag_algebra.specs.WellFormed.{WellFormed}
 use Rattle.bag_algebra.specs.declared.expr.Expr.{Expr}
 use Rattle.bag_algebra.specs.declared.query.Query.{Query}
-use Rattle.impact_laws.specs.Doomed.{doomed_on}
-use Rattle.impact_laws.specs.Vanishing.{Vanishes}
+use Rattle.delete_impact.specs.vanishing.Doomed.{doomed_on}
+use Rattle.delete_impact.specs.vanishing.Vanishing.{Vanishes}
 use Rattle.query_laws.specs.Holding.{HoldsOnce}
-use Rattle.reduced_queries.specs.Reads.{Unread, IsRead}
+use Rattle.delete_impact.specs.reduced.Reads.{Unread, IsRead}
 
 -- the rows of the query and what the condition says on each row of the table: both are looked at
 abbrev pub looked_at : Query → ℕ → Option Expr → Database → Outcome Bag

@@ -1,2 +1,4 @@
 pub mod Answering
 pub mod Impact
+pub mod vanishing
+pub mod reduced

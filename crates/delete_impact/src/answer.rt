@@ -7,12 +7,12 @@ ghost use Rattle.delete_impact.specs.Answering.{adds_none, condition_or_true, lo
 ghost use Rattle.delete_impact.specs.Impact.{IsImpact};
 ghost use Rattle.monotone_queries.specs.Conditions.{ConditionFits};
 ghost use Rattle.monotone_queries.specs.Monotone.{is_monotone};
-ghost use Rattle.reduced_queries.specs.Reduced.{behind, missing};
+ghost use Rattle.delete_impact.specs.reduced.Reduced.{behind, missing};
 
 use bag_algebra::{Expr, Query, faultless};
 use contribution::{always, kinds as columns, null_items, projection, selection};
 use perm_values::{Copyable, Kind, List, NoMemory, Value, both};
-use reduced_queries::{behind, first_kinds, hides_none, missing, missing_part, splits};
+use crate::reduced::{behind, first_kinds, hides_none, missing, missing_part, splits};
 use std::alloc::Global;
 
 /// A query that answers which rows of a monotone, closed query vanish where the rows of the table of the identity that meet the

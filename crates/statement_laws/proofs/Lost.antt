@@ -12,7 +12,7 @@ use Rattle.bag_algebra.specs.TableRows.{rows_in}
 use Rattle.bag_algebra.specs.declared.expr.Expr.{Expr}
 use Rattle.bag_algebra.specs.declared.query.Answer.{Answer}
 use Rattle.bag_algebra.specs.declared.query.Query.{Query}
-use Rattle.impact_laws.specs.Vanishing.{Vanishes}
+use Rattle.delete_impact.specs.vanishing.Vanishing.{Vanishes}
 use Rattle.null_logic.specs.declared.run_fault.RunFault.{RunFault}
 use Rattle.perm_catalog.specs.Contents.{Contents}
 use Rattle.query_laws.proofs.Limited.{ordered_once}

@@ -17,8 +17,8 @@ use Rattle.contribution.proofs.SetsOfNodes.{any_in, from_any}
 use Rattle.query_laws.proofs.Once.{holds_once-once}
 use Rattle.query_laws.specs.Holding.{HoldsOnce}
 use Rattle.query_laws.specs.SublinkLists.{InAnswer}
-use Rattle.impact_laws.specs.Doomed.{after_deletion, doomed_on}
-use Rattle.impact_laws.specs.Vanishing.{Vanishes}
+use Rattle.delete_impact.specs.vanishing.Doomed.{after_deletion, doomed_on}
+use Rattle.delete_impact.specs.vanishing.Vanishing.{Vanishes}
 use Rattle.statement_meaning.specs.Turns.{goes, is_answered, reads, rows_lost}
 
 -- which rows go is said alike of DELETE and of deletions

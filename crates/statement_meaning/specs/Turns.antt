@@ -28,7 +28,7 @@ use Rattle.perm_catalog.specs.declared.entries.Kept.{Kept}
 use Rattle.perm_catalog.specs.declared.entries.Mark.{Mark}
 use Rattle.perm_catalog.specs.declared.entries.TableEntry.{TableEntry}
 use Rattle.perm_catalog.specs.declared.entries.ViewEntry.{ViewEntry}
-use Rattle.impact_laws.specs.Doomed.{after_deletion}
+use Rattle.delete_impact.specs.vanishing.Doomed.{after_deletion}
 use Rattle.perm_io.specs.Found.{Found}
 use Rattle.perm_io.specs.Found as found
 use Rattle.name_meaning.specs.Meanings.{broken}

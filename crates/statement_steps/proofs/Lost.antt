@@ -15,9 +15,9 @@ use Rattle.bag_algebra.specs.declared.query.Answer.{Answer}
 use Rattle.bag_algebra.specs.declared.query.Query.{Query}
 use Rattle.csv_tables.specs.AnswerText.{answer_bytes}
 use Rattle.delete_impact.specs.Impact.{IsImpact, looked_at}
-use Rattle.impact_laws.proofs.Unread.{nothing-vanishes}
-use Rattle.impact_laws.specs.Doomed.{doomed_on}
-use Rattle.impact_laws.specs.Vanishing.{Vanishes}
+use Rattle.delete_impact.proofs.Unread.{nothing-vanishes}
+use Rattle.delete_impact.specs.vanishing.Doomed.{doomed_on}
+use Rattle.delete_impact.specs.vanishing.Vanishing.{Vanishes}
 use Rattle.perm_catalog.specs.Contents.{Contents}
 use Rattle.query_laws.proofs.Once.{holds_once-same}
 use Rattle.query_laws.specs.Holding.{HoldsOnce}

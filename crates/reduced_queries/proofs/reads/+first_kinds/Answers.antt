@@ -1,8 +1,0 @@
-use Rattle.std.proofs.Common.{sym, ap, ◌∙◌}
-use Rattle.reduced_queries.specs.Reads.{first_of}
-use Rattle.reduced_queries.proofs.ReadKinds.{first_kinds-node}
-use Rattle.reduced_queries.proofs.reads.+first_kinds.Goals as goal
-
-pub first_kinds-returns-in_default : goal.first_kinds-returns-in_default
-first_kinds-returns-in_default t c =
-    c.first_of.ensures ∙ ap (first_of c.args.id) c.inputs.ensures ∙ sym (first_kinds-node c.args.id c.args.query.now c.in_default.not-Table)
