@@ -13,7 +13,7 @@ ghost use Rattle.statement_steps.specs.Running.{KeepsRun};
 ghost use Rattle.run_meaning.specs.Resolving.{IsDue, Resolves};
 ghost use Rattle.perm_engine.specs.Sessions.{begun_with};
 
-use catalog_laws::catalogs_stay_sound;
+use stored_provenance::catalogs_stay_sound;
 use name_analysis::resolve;
 use name_meaning::Resolved;
 use name_seen_parts::Refusal;

@@ -15,7 +15,7 @@ use Rattle.perm_catalog.specs.Contents.{Contents}
 use Rattle.perm_catalog.specs.Lookups.{name_of_id}
 use Rattle.perm_catalog.specs.Sound.{IsSound}
 use Rattle.perm_catalog.specs.declared.entries.TableEntry.{TableEntry}
-use Rattle.catalog_laws.proofs.Marks.{has-entry, some_same}
+use Rattle.stored_provenance.proofs.Marks.{has-entry, some_same}
 use Rattle.stored_provenance.specs.Held.{IsHeldTable}
 use Rattle.stored_provenance.specs.Reads.{listed}
 use Rattle.name_meaning.specs.Froms.{named_so}

@@ -15,8 +15,8 @@ use Rattle.perm_catalog.specs.declared.entries.Mark.{Mark}
 use Rattle.perm_catalog.specs.declared.entries.TableEntry.{TableEntry}
 use Rattle.name_meaning.specs.declared.answer.Resolved.{Resolved}
 use Rattle.name_meaning.specs.declared.answer.Resolved.TheVariants as r
-use Rattle.catalog_laws.proofs.Marks.{some_same}
-use Rattle.catalog_laws.proofs.Soundness.{are-apart, free-table, none_is_some}
+use Rattle.stored_provenance.proofs.Marks.{some_same}
+use Rattle.stored_provenance.proofs.Soundness.{are-apart, free-table, none_is_some}
 use Rattle.statement_meaning.specs.Asking.{asks}
 use Rattle.statement_meaning.specs.Ready.{IsReady}
 use Rattle.statement_meaning.specs.Turns.{identity_of}

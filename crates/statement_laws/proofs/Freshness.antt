@@ -10,7 +10,7 @@ use Rattle.perm_catalog.specs.Stored.{is_unchanged, IsDrawn, IsFresh}
 use Rattle.perm_catalog.specs.declared.entries.Kept.{Kept}
 use Rattle.perm_catalog.specs.declared.entries.Mark.{Mark}
 use Rattle.perm_catalog.specs.declared.entries.TableEntry.{TableEntry}
-use Rattle.catalog_laws.proofs.Marks.{AreApart, IsHere, all-pass, here-unchanged, none-fails, unchanged-here}
+use Rattle.stored_provenance.proofs.Marks.{AreApart, IsHere, all-pass, here-unchanged, none-fails, unchanged-here}
 use Rattle.statement_laws.specs.Freshened.{IsRead, IsUnread}
 
 -- ---- one table of a name changed, put there, or taken away

@@ -27,8 +27,8 @@ use Rattle.contribution.proofs.WhereGood.{WhereGood, any_value, good-both}
 use Rattle.csv_tables.proofs.Fitting.{bag_fits-spelled}
 use Rattle.csv_tables.specs.Loading.{broken_rules, spelled_rows}
 use Rattle.csv_tables.specs.declared.data_error.DataError.{DataError}
-use Rattle.catalog_laws.proofs.SoundTables.{sound-created, sound-more_rows, sound-fewer_rows, sound-dropped_table}
-use Rattle.catalog_laws.proofs.SoundViews.{sound-more_views, sound-dropped_view}
+use Rattle.stored_provenance.proofs.SoundTables.{sound-created, sound-more_rows, sound-fewer_rows, sound-dropped_table}
+use Rattle.stored_provenance.proofs.SoundViews.{sound-more_views, sound-dropped_view}
 use Rattle.perm_catalog.specs.Changes.{table_named, is_free, rows_at, with_more_rows, with_fewer_rows, with_table, without_table}
 use Rattle.perm_catalog.specs.Columns.{column_kinds}
 use Rattle.perm_catalog.specs.Contents.{Contents}

@@ -20,8 +20,8 @@ use Rattle.perm_catalog.specs.declared.entries.Mark.{Mark}
 use Rattle.perm_catalog.specs.declared.entries.TableEntry.{TableEntry}
 use Rattle.name_meaning.specs.declared.answer.Resolved.{Resolved}
 use Rattle.name_meaning.specs.declared.answer.Resolved.TheVariants as r
-use Rattle.catalog_laws.proofs.Marks.{some_same}
-use Rattle.catalog_laws.proofs.Soundness.{free-table, none_is_some}
+use Rattle.stored_provenance.proofs.Marks.{some_same}
+use Rattle.stored_provenance.proofs.Soundness.{free-table, none_is_some}
 use Rattle.statement_meaning.specs.Asking.{asks}
 use Rattle.statement_meaning.specs.Ready.{IsReady}
 use Rattle.statement_meaning.specs.Turns.{Accepted, counting, freshness_told, freshness_text, identity_of, show_fresh, stored_at, store_answer, with_answer}

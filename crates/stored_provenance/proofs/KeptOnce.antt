@@ -12,8 +12,8 @@ use Rattle.perm_catalog.specs.Lookups.{entry_of_id}
 use Rattle.perm_catalog.specs.Stored.{each_once, kept_read, kept_of}
 use Rattle.perm_catalog.specs.declared.entries.Kept.{Kept}
 use Rattle.perm_catalog.specs.declared.entries.TableEntry.{TableEntry}
-use Rattle.catalog_laws.proofs.Found.{found-passes}
-use Rattle.catalog_laws.proofs.Marks.{nat_same}
+use Rattle.stored_provenance.proofs.Found.{found-passes}
+use Rattle.stored_provenance.proofs.Marks.{nat_same}
 use Rattle.stored_provenance.specs.Reads.{has_id, kept_now, listed, with_read, with_reads}
 
 turned : (a b : ℕ) → nat_eq a b ≡ nat_eq b a

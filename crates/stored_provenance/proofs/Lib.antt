@@ -1,3 +1,9 @@
+pub mod Found
+pub mod HeldRows
 pub mod KeptOnce
+pub mod Marks
 pub mod NewMarks
 pub mod Reading
+pub mod SoundTables
+pub mod SoundViews
+pub mod Soundness

@@ -25,9 +25,9 @@ use Rattle.perm_catalog.specs.Stored.{is_unchanged, first_changed, IsFresh, IsKe
 use Rattle.perm_catalog.specs.declared.column.Column.{Column}
 use Rattle.perm_catalog.specs.declared.entries.Kept.{Kept}
 use Rattle.perm_catalog.specs.declared.entries.TableEntry.{TableEntry}
-use Rattle.catalog_laws.proofs.Found.{found-named}
-use Rattle.catalog_laws.proofs.Marks.{nat_same, nat_equal, some_same, has-entry, all-pass}
-use Rattle.catalog_laws.proofs.Soundness.{are-apart}
+use Rattle.stored_provenance.proofs.Found.{found-named}
+use Rattle.stored_provenance.proofs.Marks.{nat_same, nat_equal, some_same, has-entry, all-pass}
+use Rattle.stored_provenance.proofs.Soundness.{are-apart}
 use Rattle.replaced_queries.specs.OverQueries.{ReadsAs}
 use Rattle.stored_provenance.specs.Held.{IsHeldTable}
 use Rattle.stored_provenance.proofs.KeptOnce.{entry-id}

@@ -22,10 +22,10 @@ use Rattle.perm_catalog.specs.declared.column.Column.{Column}
 use Rattle.perm_catalog.specs.declared.entries.Mark.{Mark}
 use Rattle.perm_catalog.specs.declared.entries.TableEntry.{TableEntry}
 use Rattle.perm_catalog.specs.declared.entries.ViewEntry.{ViewEntry}
-use Rattle.catalog_laws.proofs.HeldRows.{get-put, get-put_apart, get-removed_apart, fits-append, fits-unmarked}
+use Rattle.stored_provenance.proofs.HeldRows.{get-put, get-put_apart, get-removed_apart, fits-append, fits-unmarked}
 use Rattle.perm_catalog.proofs.Named.{AtName, Elsewhere, found, found-apart, found-here, same-or-not, named-changed, named-last, named-without, keys-changed, distinct-last, distinct-without}
-use Rattle.catalog_laws.proofs.Marks.{some_same, AreApart, IsHere, Was, Goes, stored-goes}
-use Rattle.catalog_laws.proofs.Soundness.{none_is_some, are-apart, kept-table, kept-view, Kept, stays, free-table, free-view, unused}
+use Rattle.stored_provenance.proofs.Marks.{some_same, AreApart, IsHere, Was, Goes, stored-goes}
+use Rattle.stored_provenance.proofs.Soundness.{none_is_some, are-apart, kept-table, kept-view, Kept, stays, free-table, free-view, unused}
 
 -- ---- a new table
 

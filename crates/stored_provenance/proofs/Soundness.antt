@@ -14,7 +14,7 @@ use Rattle.bag_algebra.specs.TablesRead.{TableRead}
 use Rattle.perm_catalog.specs.Sound.{IsSound, IsSoundTable, IsSoundView, IsHeldRead}
 use Rattle.perm_catalog.specs.declared.entries.TableEntry.{TableEntry}
 use Rattle.perm_catalog.specs.declared.entries.ViewEntry.{ViewEntry}
-use Rattle.catalog_laws.proofs.Marks.{some_same, AreApart, Goes, stored-goes}
+use Rattle.stored_provenance.proofs.Marks.{some_same, AreApart, Goes, stored-goes}
 
 pub none_is_some : {X : Type 0} {P : Type 0} {x : X} → None ≡ Some x → P
 none_is_some e = cc

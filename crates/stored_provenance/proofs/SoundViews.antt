@@ -9,8 +9,8 @@ use Rattle.perm_catalog.specs.declared.entries.TableEntry.{TableEntry}
 use Rattle.perm_catalog.specs.declared.entries.ViewEntry.{ViewEntry}
 use Rattle.perm_catalog.proofs.Named.{AtName, Elsewhere, found, found-apart, named-last, named-without, distinct-last, distinct-without}
 use Rattle.bag_algebra.specs.TableRows.{rows_in}
-use Rattle.catalog_laws.proofs.Marks.{some_same, AreApart, Goes}
-use Rattle.catalog_laws.proofs.Soundness.{none_is_some, are-apart, kept-table, kept-view, stays, free-table, free-view}
+use Rattle.stored_provenance.proofs.Marks.{some_same, AreApart, Goes}
+use Rattle.stored_provenance.proofs.Soundness.{none_is_some, are-apart, kept-table, kept-view, stays, free-table, free-view}
 
 -- a table and a view of a catalog whose views alone change
 same-goes : (c d : Contents) → d.next ≡ c.next → d.rows ≡ c.rows → ((q : List ℕ) → table_named d q ≡ table_named c q) → Goes c d

@@ -1,7 +1,7 @@
-use Rattle.catalog_laws.proofs.Soundness.{sound-empty}
-use Rattle.catalog_laws.proofs.SoundTables.{sound-created, sound-more_rows, sound-fewer_rows, sound-dropped_table}
-use Rattle.catalog_laws.proofs.SoundViews.{sound-more_views, sound-dropped_view}
-use Rattle.catalog_laws.proofs.laws.catalogs_stay_sound.Goals as goal
+use Rattle.stored_provenance.proofs.Soundness.{sound-empty}
+use Rattle.stored_provenance.proofs.SoundTables.{sound-created, sound-more_rows, sound-fewer_rows, sound-dropped_table}
+use Rattle.stored_provenance.proofs.SoundViews.{sound-more_views, sound-dropped_view}
+use Rattle.stored_provenance.proofs.catalog.catalogs_stay_sound.Goals as goal
 
 pub returns-clause-new : goal.returns-clause-new
 returns-clause-new c = sound-empty

@@ -1,3 +1,4 @@
+//! What keeps a catalog sound, and what a table that stores provenance stands for.
 //! Laws of sound catalogs: each is the contract of a function that does nothing.
 ghost use Rattle.std.specs.Prelude.{◌≡◌, ℕ, Bool, true, List, Option, Some, None, IfSome};
 ghost use Rattle.bag_algebra.specs.Bags.{Bag};

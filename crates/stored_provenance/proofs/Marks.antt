@@ -26,7 +26,7 @@ use Rattle.perm_catalog.specs.declared.column.Column.{Column}
 use Rattle.perm_catalog.specs.declared.entries.Kept.{Kept}
 use Rattle.perm_catalog.specs.declared.entries.Mark.{Mark}
 use Rattle.perm_catalog.specs.declared.entries.TableEntry.{TableEntry}
-use Rattle.catalog_laws.proofs.Found.{IsFound, named-found, found-passes, found-named}
+use Rattle.stored_provenance.proofs.Found.{IsFound, named-found, found-passes, found-named}
 
 -- names and identities differ
 pub record AreApart (c : Contents) : Type 0 where
