@@ -22,7 +22,7 @@ use Rattle.name_meaning.specs.Froms.{named_so}
 use Rattle.name_meaning.specs.Statements.{repeats}
 use Rattle.clause_texts.specs.Names.{has_id, names_of, nameless, table_of}
 use Rattle.clause_texts.specs.declared.tables.TableNames.{TableNames}
-use Rattle.printed_names.specs.ReadAs.{IsNamed}
+use Rattle.sql_printer.specs.answers.ReadAs.{IsNamed}
 use Rattle.sql_printer.specs.Called.{named_under, names_now, tables_named, with_read, with_reads}
 
 pub with_reads-append : (c : Contents) (rs ss : List TableRead) (tables : List TableNames)

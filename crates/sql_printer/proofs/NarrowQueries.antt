@@ -7,9 +7,9 @@ use Rattle.bag_algebra.specs.built.Patterns.{BaseOf, FilterOf, ProjectOf, JoinOf
 use Rattle.bag_algebra.specs.declared.query.Aggr.{Aggr}
 use Rattle.bag_algebra.specs.declared.query.Query.{Query, Row_of-Sublink, more_of-Sublink, end_of-Sublink}
 use Rattle.bag_algebra.specs.declared.query.Query.TheVariants.{Table, Single}
-use Rattle.printed_forms.specs.Printable.{Printable, PrintableSubs, Short}
-use Rattle.printed_forms.proofs.PrintableNodes.{printable-short}
-use Rattle.printed_names.specs.ReadAs.{Few, Narrow, NarrowSubs}
+use Rattle.sql_printer.specs.forms.Printable.{Printable, PrintableSubs, Short}
+use Rattle.sql_printer.proofs.forms.PrintableNodes.{printable-short}
+use Rattle.sql_printer.specs.answers.ReadAs.{Few, Narrow, NarrowSubs}
 
 pub short-few : (kinds : List Kind) → Short kinds → Few kinds
 short-few kinds s = omega (arith, s)

@@ -29,14 +29,14 @@ use Rattle.query_forms.proofs.Said.{said_is}
 use Rattle.query_forms.proofs.SaidQueries.{answer_said}
 use Rattle.sql_tree.specs.declared.query.QueryTree.{QueryTree}
 use Rattle.answer_texts.specs.Explains.{Explains, MeansTheSame, read_as}
-use Rattle.printed_queries.specs.Printed.{printed_answer}
-use Rattle.printed_queries.specs.Writable.{WritableQuery}
-use Rattle.printed_forms.specs.Printable.{AreCharacters, Printable}
-use Rattle.printed_forms.proofs.EndedTexts.{ended-form}
-use Rattle.printed_forms.proofs.FitsQueries.{answer-fits}
-use Rattle.printed_forms.proofs.PrintableNodes.{printable-short}
-use Rattle.printed_forms.proofs.WritableQueries.{printable-writable}
-use Rattle.printed_names.specs.ReadAs.{Few, IsNamed, IsReadAs, Narrow, source_in}
+use Rattle.sql_printer.specs.rows.Printed.{printed_answer}
+use Rattle.sql_printer.specs.rows.Writable.{WritableQuery}
+use Rattle.sql_printer.specs.forms.Printable.{AreCharacters, Printable}
+use Rattle.sql_printer.proofs.forms.EndedTexts.{ended-form}
+use Rattle.sql_printer.proofs.forms.FitsQueries.{answer-fits}
+use Rattle.sql_printer.proofs.forms.PrintableNodes.{printable-short}
+use Rattle.sql_printer.proofs.forms.WritableQueries.{printable-writable}
+use Rattle.sql_printer.specs.answers.ReadAs.{Few, IsNamed, IsReadAs, Narrow, source_in}
 use Rattle.sql_printer.proofs.NarrowQueries.{printable-narrow, short-few}
 
 record IsSome (kinds : List Kind) : Type 0 where

@@ -1,1 +1,7 @@
 pub mod Called
+pub mod rows
+pub mod forms
+pub mod expressions
+pub mod cores
+pub mod groups
+pub mod answers

@@ -11,8 +11,8 @@ use bag_algebra::Answer;
 use laid_texts::in_lines;
 use perm_catalog::Catalog;
 use perm_values::{Bytes, NoMemory};
-use printed_forms::{printable, see_names, see_tables};
-use printed_names::{a_printed_answer_is_read_back, a_printed_answer_means_the_answer};
+use crate::forms::{printable, see_names, see_tables};
+use crate::answers::{a_printed_answer_is_read_back, a_printed_answer_means_the_answer};
 use query_texts::query_text;
 use std::alloc::Global;
 

@@ -29,9 +29,9 @@ use Rattle.name_meaning.specs.Statements.{query_meant}
 use Rattle.name_meaning.proofs.Equations.{tree_equations, token-given}
 use Rattle.clause_texts.specs.declared.tables.TableNames.{TableNames}
 use Rattle.query_forms.specs.ShownQueries.{shown_answer}
-use Rattle.printed_queries.specs.Printed.{printed_answer}
+use Rattle.sql_printer.specs.rows.Printed.{printed_answer}
 use Rattle.answer_texts.specs.Explains.{read_as}
-use Rattle.printed_names.specs.ReadAs.{source_in}
+use Rattle.sql_printer.specs.answers.ReadAs.{source_in}
 use Rattle.worked_examples.specs.FormTrees.{query_tree}
 
 -- ---- words of the examples

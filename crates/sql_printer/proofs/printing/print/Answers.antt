@@ -4,8 +4,8 @@ use Rattle.std.specs.List.{AllByRecursion}
 use Rattle.std.specs.Str.{IsUtf8}
 use Rattle.bag_algebra.specs.TablesRead.{EachTable}
 use Rattle.query_texts.specs.QueryTexts.{answer_bytes}
-use Rattle.printed_forms.specs.Printable.{AreCharacters}
-use Rattle.printed_names.specs.ReadAs.{IsNamed}
+use Rattle.sql_printer.specs.forms.Printable.{AreCharacters}
+use Rattle.sql_printer.specs.answers.ReadAs.{IsNamed}
 use Rattle.sql_printer.proofs.NamedTables.{tables-named}
 use Rattle.sql_printer.proofs.PrintedAnswers.{printed}
 use Rattle.sql_printer.proofs.printing.print.Goals as goal

@@ -1,9 +1,0 @@
-use Rattle.std.specs.List.{AllByRecursion}
-use Rattle.std.specs.Str.{IsUtf8}
-use Rattle.printed_forms.proofs.OpenedExpressions.{owed-here}
-use Rattle.printed_forms.proofs.characters.see_names.Goals as goal
-
-pub loop-name-preserved : goal.loop-name-preserved
-loop-name-preserved c = λ rest.
-    owed-here (AllByRecursion IsUtf8) c.args.names.now c.loop-name.name-index c.name-item.result c.loop-name-test.true c.name-item.is
-    c.loop-name.invariant (c.bytes-bytes.ensures.utf8, rest)

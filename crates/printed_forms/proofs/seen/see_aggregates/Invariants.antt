@@ -1,7 +1,0 @@
-use Rattle.std.proofs.Common.{drop}
-use Rattle.printed_queries.specs.Writable.{WritableAggregates}
-use Rattle.printed_forms.proofs.seen.see_aggregates.Given as goal
-
--- all can be written where those that are left can
-abbrev pub invariant-loop-aggregate : goal.invariant-loop-aggregate
-invariant-loop-aggregate l = WritableAggregates (drop l.aggregate-index l.aggregates) → WritableAggregates l.aggregates
