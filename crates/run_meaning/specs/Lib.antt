@@ -5,3 +5,4 @@ pub mod Same
 pub mod Scripts
 pub mod Statuses
 pub mod Stops
+pub mod headline

@@ -9,7 +9,7 @@ use Rattle.run_meaning.specs.Run.{ended, script_files}
 use Rattle.run_meaning.specs.Stops.{Misused}
 use Rattle.run_meaning.specs.declared.status.Status.{Status}
 use Rattle.run_meaning.specs.declared.status.Status.TheVariants as status
-use Rattle.headline_laws.proofs.Headlines.{ends-told}
+use Rattle.run_meaning.proofs.Headlines.{ends-told}
 use Rattle.run_meaning.proofs.Completing.{completes, steadied, whole-flushed, write_fault}
 use Rattle.run_meaning.proofs.Looping.{other_end, used-of_script}
 use Rattle.run_meaning.proofs.Begun.{Opens-none}
