@@ -1,2 +1,3 @@
 pub mod QueryTexts
 pub mod built
+pub mod forms

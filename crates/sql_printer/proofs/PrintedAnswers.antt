@@ -24,9 +24,9 @@ use Rattle.tree_texts.specs.Trees.{IsQuery}
 use Rattle.tree_texts.proofs.FormsSound.{query_sound}
 use Rattle.tree_texts.proofs.Standing.{all_stand}
 use Rattle.laid_texts.specs.Lines.{EndsScript}
-use Rattle.query_forms.specs.ShownQueries.{shown_answer}
-use Rattle.query_forms.proofs.Said.{said_is}
-use Rattle.query_forms.proofs.SaidQueries.{answer_said}
+use Rattle.query_texts.specs.forms.ShownQueries.{shown_answer}
+use Rattle.query_texts.proofs.Said.{said_is}
+use Rattle.query_texts.proofs.SaidQueries.{answer_said}
 use Rattle.sql_tree.specs.declared.query.QueryTree.{QueryTree}
 use Rattle.answer_texts.specs.Explains.{Explains, MeansTheSame, read_as}
 use Rattle.sql_printer.specs.rows.Printed.{printed_answer}

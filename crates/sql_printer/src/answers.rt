@@ -11,7 +11,7 @@ ghost use Rattle.perm_catalog.specs.Contents.{Contents};
 ghost use Rattle.sql_tree.specs.declared.query.QueryTree.{QueryTree};
 ghost use Rattle.tree_texts.specs.Trees.{IsQuery};
 ghost use Rattle.clause_texts.specs.declared.tables.TableNames.{TableNames};
-ghost use Rattle.query_forms.specs.ShownQueries.{shown_answer};
+ghost use Rattle.query_texts.specs.forms.ShownQueries.{shown_answer};
 ghost use Rattle.sql_printer.specs.rows.Printed.{printed_answer};
 ghost use Rattle.sql_printer.specs.rows.Writable.{WritableQuery};
 ghost use Rattle.answer_texts.specs.Explains.{MeansTheSame, read_as};

@@ -12,7 +12,7 @@ ghost use Rattle.name_meaning.specs.Trees.{part_of};
 ghost use Rattle.name_meaning.specs.declared.scope.Scope.{Scope};
 ghost use Rattle.tree_texts.specs.Forms.{ExprForm};
 ghost use Rattle.tree_texts.specs.Trees.{IsExpr};
-ghost use Rattle.query_forms.specs.ShownExpressions.{shown_expr};
+ghost use Rattle.query_texts.specs.forms.ShownExpressions.{shown_expr};
 ghost use Rattle.sql_printer.specs.rows.Printed.{taken};
 ghost use Rattle.sql_printer.specs.rows.PrintedExpressions.{asked_in, printed_expr};
 ghost use Rattle.sql_printer.specs.rows.Writable.{Writable};

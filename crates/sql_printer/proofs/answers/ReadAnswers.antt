@@ -23,7 +23,7 @@ use Rattle.name_meaning.specs.declared.scope.Scope.{Scope}
 use Rattle.tree_texts.specs.Trees.{AreItems, IsCore, IsQuery, an_item_tree, no_item_trees}
 use Rattle.clause_texts.specs.Names.{outermost}
 use Rattle.clause_texts.specs.declared.tables.TableNames.{TableNames}
-use Rattle.query_forms.specs.ShownQueries.{Framed, called, called_from, framed, selected, shown_answer, sources}
+use Rattle.query_texts.specs.forms.ShownQueries.{Framed, called, called_from, framed, selected, shown_answer, sources}
 use Rattle.sql_printer.specs.rows.Printed.{Readings, columns_from, or_unread, printed_answer, readings, unread_item}
 use Rattle.sql_printer.specs.rows.PrintedExpressions.{before}
 use Rattle.sql_printer.specs.rows.Writable.{WritableQuery}

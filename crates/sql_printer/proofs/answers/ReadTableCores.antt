@@ -28,7 +28,7 @@ use Rattle.tree_texts.specs.Forms as f
 use Rattle.tree_texts.specs.Trees.{AreItems, AreSources, IsCore, IsItem, an_item_tree, no_item_trees, no_join_trees, source_trees, table_tree}
 use Rattle.clause_texts.specs.Names.{names_of, naming}
 use Rattle.clause_texts.specs.declared.tables.TableNames.{TableNames}
-use Rattle.query_forms.specs.ShownQueries.{listed, of_table, one, selected}
+use Rattle.query_texts.specs.forms.ShownQueries.{listed, of_table, one, selected}
 use Rattle.sql_printer.specs.rows.Printed.{columns_from, listed as given_of, or_unread, unread_item}
 use Rattle.sql_printer.specs.rows.PrintedExpressions.{integer}
 use Rattle.sql_printer.proofs.rows.ShownRows.{shown_kinds}

@@ -21,7 +21,7 @@ use Rattle.name_meaning.specs.declared.scope.Scope.{Scope}
 use Rattle.name_meaning.specs.declared.scope.ScopeColumn.{ScopeColumn}
 use Rattle.tree_texts.specs.Forms as f
 use Rattle.tree_texts.specs.Trees.{AreItems, an_item_tree, no_item_trees}
-use Rattle.query_forms.specs.ShownQueries.{named_from}
+use Rattle.query_texts.specs.forms.ShownQueries.{named_from}
 use Rattle.sql_printer.specs.rows.Printed.{columns_from}
 use Rattle.sql_printer.specs.expressions.Scopes.{marks}
 use Rattle.sql_printer.proofs.expressions.PlainTrees.{plain-tree}

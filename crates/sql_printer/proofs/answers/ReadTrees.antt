@@ -31,8 +31,8 @@ use Rattle.clause_texts.specs.Names.{deeper, names_of, naming, own as own_naming
 use Rattle.clause_texts.specs.Unused.{items_use, spare}
 use Rattle.clause_texts.specs.declared.tables.TableNames.{TableNames}
 use Rattle.expression_texts.specs.Words.{is_any}
-use Rattle.query_forms.specs.ShownQueries as writing
-use Rattle.query_forms.specs.ShownQueries.{Framed, framed, joined, joined_to, key_form, listed, of_table, one, projected, selected, shown, source_name, sources, sub_forms, tested_by, tested_part}
+use Rattle.query_texts.specs.forms.ShownQueries as writing
+use Rattle.query_texts.specs.forms.ShownQueries.{Framed, framed, joined, joined_to, key_form, listed, of_table, one, projected, selected, shown, source_name, sources, sub_forms, tested_by, tested_part}
 use Rattle.sql_printer.specs.rows.Printed as printing
 use Rattle.sql_printer.specs.rows.Printed.{Readings, condition_subs, printed, printed_condition, printed_subs, readings}
 use Rattle.sql_printer.specs.rows.Writable.{WritableQuery, WritableSubs}

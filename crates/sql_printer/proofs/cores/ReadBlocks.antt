@@ -30,8 +30,8 @@ use Rattle.tree_texts.specs.Trees.{AreItems, AreSources, IsCondition, IsCore, Is
 use Rattle.clause_texts.specs.Names.{Naming, naming, own as own_naming}
 use Rattle.clause_texts.specs.Unused.{items_use, spare}
 use Rattle.expression_texts.specs.Words.{is_any}
-use Rattle.query_forms.specs.ShownQueries as writing
-use Rattle.query_forms.specs.ShownQueries.{Chain, Framed, Listed, alone, copied, joined, joined_to, just, projected, selected, source_name, sources, stays, tested_by}
+use Rattle.query_texts.specs.forms.ShownQueries as writing
+use Rattle.query_texts.specs.forms.ShownQueries.{Chain, Framed, Listed, alone, copied, joined, joined_to, just, projected, selected, source_name, sources, stays, tested_by}
 use Rattle.sql_printer.specs.rows.Printed as printing
 use Rattle.sql_printer.specs.rows.Printed.{Readings, asked_by, columns_from, condition_subs, first_beside, idle, idle_in, lateral_kind, listed, or_unread, printed_condition, taken, unread_item, unread_of}
 use Rattle.sql_printer.specs.rows.PrintedExpressions.{printed_expr}

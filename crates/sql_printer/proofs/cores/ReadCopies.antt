@@ -14,7 +14,7 @@ use Rattle.tree_texts.specs.Forms as f
 use Rattle.tree_texts.specs.Forms.{ExprForm}
 use Rattle.tree_texts.specs.Trees.{AreItems, IsItem, an_item_tree, no_item_trees}
 use Rattle.clause_texts.specs.Names.{naming}
-use Rattle.query_forms.specs.ShownQueries.{columns, listed, named_from, one, own_column}
+use Rattle.query_texts.specs.forms.ShownQueries.{columns, listed, named_from, one, own_column}
 use Rattle.sql_printer.specs.rows.Printed.{columns_from, or_unread, unread_item}
 use Rattle.sql_printer.specs.rows.PrintedExpressions.{before, integer}
 use Rattle.sql_printer.proofs.rows.ShownRows.{shown_kinds}

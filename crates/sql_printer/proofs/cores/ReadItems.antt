@@ -16,8 +16,8 @@ use Rattle.tree_texts.specs.Forms.{ExprForm}
 use Rattle.tree_texts.specs.Trees.{AreItems, IsExpr, IsItem, an_item_tree, no_item_trees}
 use Rattle.clause_texts.specs.Names.{naming}
 use Rattle.clause_texts.specs.Unused.{items_use, spare}
-use Rattle.query_forms.specs.ShownExpressions.{shown_expr, beside as shown_beside}
-use Rattle.query_forms.specs.ShownQueries.{named_from, one, projected}
+use Rattle.query_texts.specs.forms.ShownExpressions.{shown_expr, beside as shown_beside}
+use Rattle.query_texts.specs.forms.ShownQueries.{named_from, one, projected}
 use Rattle.sql_printer.specs.rows.Printed.{asked_by, first_beside, idle, printed_items, taken}
 use Rattle.sql_printer.specs.rows.PrintedExpressions.{asked_in, integer, printed_expr}
 use Rattle.sql_printer.specs.rows.Writable.{WritableItems}

@@ -22,7 +22,7 @@ use Rattle.name_meaning.specs.declared.rule.Rule.TheVariants as rule
 use Rattle.name_meaning.specs.declared.scope.Scope.{Scope}
 use Rattle.name_meaning.specs.declared.scope.ScopeColumn.{ScopeColumn}
 use Rattle.tree_texts.specs.Trees as tree
-use Rattle.query_forms.specs.ShownQueries.{joined}
+use Rattle.query_texts.specs.forms.ShownQueries.{joined}
 use Rattle.sql_printer.proofs.cores.ReadCores.{Condition, FromRead, TestRead}
 use Rattle.sql_printer.specs.expressions.Reading.{built}
 use Rattle.sql_printer.proofs.expressions.ReadParts.{read-seen}

@@ -14,7 +14,7 @@ use Rattle.name_meaning.specs.Scopes.{ScopeItem, scope_of}
 use Rattle.name_meaning.specs.Trees.{from_item_of, join_of}
 use Rattle.name_meaning.specs.declared.scope.Scope.{Scope}
 use Rattle.tree_texts.specs.Trees.{lateral_of}
-use Rattle.query_forms.specs.ShownQueries.{stays}
+use Rattle.query_texts.specs.forms.ShownQueries.{stays}
 use Rattle.sql_printer.specs.rows.Printed.{lateral_kind}
 
 pub words-lateral : (b : Bool) → is_lateral (lateral_of b) ≡ true

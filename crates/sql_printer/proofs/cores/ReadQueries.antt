@@ -22,7 +22,7 @@ use Rattle.name_meaning.specs.declared.rule.Rule.TheVariants as rule
 use Rattle.tree_texts.specs.Forms as f
 use Rattle.tree_texts.specs.Forms.{CoreForm}
 use Rattle.tree_texts.specs.Trees.{AreKeys, IsCore, IsQuery, a_key_tree, limit_of, no_key_trees, one_tree}
-use Rattle.query_forms.specs.ShownQueries.{alone, key_form}
+use Rattle.query_texts.specs.forms.ShownQueries.{alone, key_form}
 use Rattle.sql_printer.specs.cores.Queries.{QueryRead, out_columns}
 
 -- ---- keys

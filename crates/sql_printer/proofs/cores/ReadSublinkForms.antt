@@ -23,8 +23,8 @@ use Rattle.name_meaning.specs.Trees.{part_of, query_of}
 use Rattle.tree_texts.specs.Forms as f
 use Rattle.tree_texts.specs.Forms.{QueryForm}
 use Rattle.tree_texts.specs.Trees.{IsCompound, IsExpr, IsQuery, all_tree, any_tree, in_query_tree}
-use Rattle.query_forms.specs.ShownExpressions.{shown_expr}
-use Rattle.query_forms.specs.ShownQueries.{all_of, any_of, asked, tested_part}
+use Rattle.query_texts.specs.forms.ShownExpressions.{shown_expr}
+use Rattle.query_texts.specs.forms.ShownQueries.{all_of, any_of, asked, tested_part}
 use Rattle.sql_printer.specs.rows.Printed.{taken}
 use Rattle.sql_printer.specs.rows.PrintedExpressions.{asked_in, printed_expr}
 use Rattle.sql_printer.specs.rows.Writable.{Writable, WritableOption}

@@ -18,8 +18,8 @@ use Rattle.bag_algebra.specs.declared.query.SubKind.{SubKind}
 use Rattle.bag_algebra.specs.declared.query.SubKind.TheVariants as ask
 use Rattle.tree_texts.specs.Forms as f
 use Rattle.tree_texts.specs.Forms.{ExprForm, QueryForm, enclosed}
-use Rattle.query_forms.specs.ShownExpressions.{ArmForm, StepForm, arms_of, beside, cases, chain_of, chained, factors, least, literal, never_arms, operated, others, shown_arms, shown_expr, shown_parts, shown_steps, signed, terms, truth_tested, unsaid}
-use Rattle.query_forms.specs.ShownQueries.{asked, tested_part}
+use Rattle.query_texts.specs.forms.ShownExpressions.{ArmForm, StepForm, arms_of, beside, cases, chain_of, chained, factors, least, literal, never_arms, operated, others, shown_arms, shown_expr, shown_parts, shown_steps, signed, terms, truth_tested, unsaid}
+use Rattle.query_texts.specs.forms.ShownQueries.{asked, tested_part}
 use Rattle.sql_printer.proofs.expressions.PlainTrees.{Plain, PlainArms, PlainExprs, PlainFactors, PlainTerms}
 
 abbrev pub AllPlain : List ExprForm → Type 0

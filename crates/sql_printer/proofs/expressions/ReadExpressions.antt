@@ -34,7 +34,7 @@ use Rattle.name_meaning.specs.declared.need.Need.TheVariants.{OfKind as of_kind,
 use Rattle.tree_texts.specs.Forms as f
 use Rattle.tree_texts.specs.Forms.{ExprForm}
 use Rattle.tree_texts.specs.Trees.{IsExpr}
-use Rattle.query_forms.specs.ShownExpressions.{ArmForm, StepForm, cases, chain_of, chained, least as shown_least, operated, shown_arms, shown_expr, shown_parts, shown_steps, signed, truth_tested}
+use Rattle.query_texts.specs.forms.ShownExpressions.{ArmForm, StepForm, cases, chain_of, chained, least as shown_least, operated, shown_arms, shown_expr, shown_parts, shown_steps, signed, truth_tested}
 use Rattle.sql_printer.specs.rows.Printed.{nothing_asked, taken}
 use Rattle.sql_printer.specs.rows.PrintedExpressions.{asked_in, asked_in_arms, asked_in_parts, asked_in_steps, integer, least, negative, printed_arms, printed_expr, printed_integer, printed_literal, printed_operator, printed_parts, printed_steps, printed_test}
 use Rattle.sql_printer.specs.rows.Writable.{Writable, WritableArms, WritableParts, WritableSteps}

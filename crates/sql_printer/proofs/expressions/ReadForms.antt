@@ -24,7 +24,7 @@ use Rattle.name_meaning.specs.declared.need.Need.TheVariants.{OfKind as of_kind,
 use Rattle.tree_texts.specs.Forms as f
 use Rattle.tree_texts.specs.Forms.{ExprForm, CompoundForm}
 use Rattle.tree_texts.specs.Trees.{IsExpr, IsCompound, AreExprs, AreTerms, AreFactors, AreArms, enclosed_tree, case_tree, coalesce_tree, null_if_tree, negative_tree, added_tree, multiplied_tree, compared_tree, like_tree, between_tree, in_list_tree, is_null_tree, is_truth_tree, is_distinct_tree, negated_tree, each_of_tree, one_of_tree, no_expr_trees, an_expr_tree, term_tree, no_term_trees, a_term_tree, factor_tree, no_factor_trees, a_factor_tree, no_arm_trees, an_arm_tree, sum_of, product_of}
-use Rattle.query_forms.specs.ShownExpressions.{StepForm, ArmForm, others, terms, factors, arms_of, additive_of, multiplicative_of, chain_of}
+use Rattle.query_texts.specs.forms.ShownExpressions.{StepForm, ArmForm, others, terms, factors, arms_of, additive_of, multiplicative_of, chain_of}
 use Rattle.sql_printer.proofs.rows.RelatedOutcomes.{Along}
 
 -- ---- the table of operators

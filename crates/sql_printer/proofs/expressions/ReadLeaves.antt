@@ -31,7 +31,7 @@ use Rattle.expression_texts.specs.Names.{column_name}
 use Rattle.tree_texts.specs.Forms as f
 use Rattle.tree_texts.specs.Forms.{ExprForm}
 use Rattle.tree_texts.specs.Trees.{IsExpr, bare_tree, column_tree, integer_tree, null_tree, text_tree, truth_tree}
-use Rattle.query_forms.specs.ShownExpressions.{literal, signed}
+use Rattle.query_texts.specs.forms.ShownExpressions.{literal, signed}
 use Rattle.sql_printer.specs.rows.PrintedExpressions.{before, integer, negative, printed_integer, printed_literal}
 use Rattle.sql_printer.proofs.rows.RelatedOutcomes.{Along}
 use Rattle.sql_printer.specs.expressions.Reading.{Finds, IsRead}

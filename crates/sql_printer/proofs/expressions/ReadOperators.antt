@@ -21,7 +21,7 @@ use Rattle.name_meaning.specs.declared.need.Need.{Need}
 use Rattle.name_meaning.specs.declared.need.Need.TheVariants.{OfKind as of_kind, Alike as alike}
 use Rattle.tree_texts.specs.Forms.{ExprForm}
 use Rattle.tree_texts.specs.Trees.{IsExpr}
-use Rattle.query_forms.specs.ShownExpressions.{operated}
+use Rattle.query_texts.specs.forms.ShownExpressions.{operated}
 use Rattle.sql_printer.specs.rows.PrintedExpressions.{among, first_known, printed_operator}
 use Rattle.sql_printer.proofs.rows.RelatedOutcomes.{Along}
 use Rattle.sql_printer.specs.expressions.Reading.{IsRead}

@@ -27,8 +27,8 @@ use Rattle.clause_texts.specs.Names.{Naming, deeper, has_id, names_of, nameless,
 use Rattle.clause_texts.specs.Unused.{items_use, spare, used_in}
 use Rattle.clause_texts.specs.declared.tables.TableNames.{TableNames}
 use Rattle.expression_texts.specs.Words.{is_any}
-use Rattle.query_forms.specs.ShownExpressions.{beside, shown_expr}
-use Rattle.query_forms.specs.ShownQueries.{Chain, Framed, Listed, a_block, a_select, a_whole, aggregated, aggregates_from, alone, argument, arguments, apart_unless, below_groups, called, called_from, columns, copied, framed, grouped_columns, in_groups, joined, joined_to, just, key_form, listed, named_from, of_table, one, own_column, projected, selected, shown, shown_answer, source_name, sources, stays, sub_forms, tested_by, tested_part, then_joins}
+use Rattle.query_texts.specs.forms.ShownExpressions.{beside, shown_expr}
+use Rattle.query_texts.specs.forms.ShownQueries.{Chain, Framed, Listed, a_block, a_select, a_whole, aggregated, aggregates_from, alone, argument, arguments, apart_unless, below_groups, called, called_from, columns, copied, framed, grouped_columns, in_groups, joined, joined_to, just, key_form, listed, named_from, of_table, one, own_column, projected, selected, shown, shown_answer, source_name, sources, stays, sub_forms, tested_by, tested_part, then_joins}
 use Rattle.sql_printer.specs.rows.Writable.{Writable, WritableAggregates, WritableItems, WritableOption}
 use Rattle.sql_printer.specs.forms.Printable.{AreCharacters, Printable, PrintableSubs}
 use Rattle.sql_printer.proofs.forms.FitsExpressions.{AllFit, fits-asked, fits-beside, fits-name, fits-shown, fits-tested}

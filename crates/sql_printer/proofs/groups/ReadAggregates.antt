@@ -30,8 +30,8 @@ use Rattle.name_meaning.specs.declared.scope.Scope.{Scope}
 use Rattle.tree_texts.specs.Forms as f
 use Rattle.tree_texts.specs.Forms.{ExprForm}
 use Rattle.tree_texts.specs.Trees.{AreItems, IsExpr, IsItem, an_item_tree, count_distinct_tree, count_rows_tree, count_tree, folded_tree, item_tree, no_item_trees}
-use Rattle.query_forms.specs.ShownQueries as writing
-use Rattle.query_forms.specs.ShownQueries.{named_from, own_column}
+use Rattle.query_texts.specs.forms.ShownQueries as writing
+use Rattle.query_texts.specs.forms.ShownQueries.{named_from, own_column}
 use Rattle.sql_printer.specs.rows.Printed as printing
 use Rattle.sql_printer.specs.rows.Printed.{argument_at, columns_from, counted}
 use Rattle.sql_printer.proofs.rows.AskedNumbers.{get-below}

@@ -19,9 +19,9 @@ use Rattle.name_meaning.specs.declared.scope.Scope.{Scope}
 use Rattle.tree_texts.specs.Forms.{ExprForm}
 use Rattle.tree_texts.specs.Trees.{AreItems, IsExpr, IsItem, an_item_tree, no_item_trees}
 use Rattle.clause_texts.specs.Names.{naming}
-use Rattle.query_forms.specs.ShownExpressions.{shown_expr}
-use Rattle.query_forms.specs.ShownQueries as writing
-use Rattle.query_forms.specs.ShownQueries.{listed, named_from, one}
+use Rattle.query_texts.specs.forms.ShownExpressions.{shown_expr}
+use Rattle.query_texts.specs.forms.ShownQueries as writing
+use Rattle.query_texts.specs.forms.ShownQueries.{listed, named_from, one}
 use Rattle.sql_printer.specs.rows.Printed as printing
 use Rattle.sql_printer.specs.rows.Printed.{or_unread, unread_item}
 use Rattle.sql_printer.specs.rows.PrintedExpressions.{asked_in, integer, printed_expr}

@@ -16,7 +16,7 @@ use Rattle.name_meaning.specs.declared.scope.Scope.{Scope}
 use Rattle.expression_texts.specs.Names.{column_name}
 use Rattle.tree_texts.specs.Forms.{ExprForm}
 use Rattle.tree_texts.specs.Trees.{IsExpr}
-use Rattle.query_forms.specs.ShownExpressions.{unsaid}
+use Rattle.query_texts.specs.forms.ShownExpressions.{unsaid}
 use Rattle.sql_printer.specs.rows.Printed.{nothing_asked}
 use Rattle.sql_printer.specs.rows.PrintedExpressions.{before}
 

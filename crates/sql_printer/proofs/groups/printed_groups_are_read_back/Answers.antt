@@ -1,6 +1,6 @@
 use Rattle.std.specs.Prelude.{suc, ◌∷◌}
 use Rattle.tree_texts.specs.Forms.{no_condition}
-use Rattle.query_forms.specs.ShownQueries.{just}
+use Rattle.query_texts.specs.forms.ShownQueries.{just}
 use Rattle.sql_printer.proofs.cores.ReadBlocks.{chain-block}
 use Rattle.sql_printer.proofs.cores.ReadChains.{just-read}
 use Rattle.sql_printer.proofs.groups.ReadGroups.{in_groups-read}

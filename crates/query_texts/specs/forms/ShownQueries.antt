@@ -25,7 +25,7 @@ use Rattle.expression_texts.specs.Names.{column_name}
 use Rattle.clause_texts.specs.Chains.{is_chained}
 use Rattle.clause_texts.specs.Names.{Naming, naming, own, unread, outermost, deeper, names_of, source_prefix}
 use Rattle.expression_texts.specs.Words.{is_any}
-use Rattle.query_forms.specs.ShownExpressions.{shown_expr, unsaid, beside}
+use Rattle.query_texts.specs.forms.ShownExpressions.{shown_expr, unsaid, beside}
 use Rattle.clause_texts.specs.Unused.{used_in, items_use, spare}
 use Rattle.clause_texts.specs.declared.tables.TableNames.{TableNames}
 

@@ -17,9 +17,9 @@ use Rattle.tree_texts.specs.FormPlans as plan
 use Rattle.tree_texts.specs.Forms as f
 use Rattle.tree_texts.specs.Forms.{ExprForm, enclosed}
 use Rattle.tree_texts.specs.Phrases.{comparison, additive, multiplicative}
-use Rattle.query_forms.specs.ShownExpressions.{literal, signed, least, others, operated, additive_of, multiplicative_of}
+use Rattle.query_texts.specs.forms.ShownExpressions.{literal, signed, least, others, operated, additive_of, multiplicative_of}
 use Rattle.expression_texts.specs.ExpressionTexts.{operated_text}
-use Rattle.query_forms.specs.Pieces.{said, expr_said}
+use Rattle.query_texts.specs.forms.Pieces.{said, expr_said}
 use Rattle.expression_texts.specs.Words.{literal_text, signed_text, number_text, null_text, compare_text, additive_word, multiplicative_word, separated}
 
 pub compare_said : (c : Compare) → said (comparison c) ≡ compare_text c

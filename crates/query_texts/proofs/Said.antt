@@ -6,7 +6,7 @@ use Rattle.sql_grammar.specs.Grammar.{SqlRule}
 use Rattle.sql_plans.specs.Plans.{Plan, a_word, a_choice, a_token, both, before, behind, first, second, front_first, front_second, absent, present, no_more, one_more, one_last, at_start, as_symbol, tokens_of}
 use Rattle.sql_plans.specs.Written.{token_for}
 use Rattle.tree_texts.specs.Texts.{shown, shown_tokens}
-use Rattle.query_forms.specs.Pieces.{said}
+use Rattle.query_texts.specs.forms.Pieces.{said}
 
 shown_both : (us vs : List Token) → shown_tokens (us ++ vs) ≡ shown_tokens us ++ shown_tokens vs
 shown_both us vs = flat_map-append (λ token. shown token ++ 32 ∷ []) us vs

@@ -1,9 +1,10 @@
+//! Queries of the algebra as they are printed: which form each has, and that this is what is written.
 //! Each law is the contract of a function that does nothing.
 ghost use Rattle.std.specs.Prelude.{◌≡◌, ℕ, List};
 ghost use Rattle.perm_values.specs.declared.key.Key.{Key};
 ghost use Rattle.bag_algebra.specs.declared.query.Query.{Query};
 ghost use Rattle.tree_texts.specs.Texts.{query_text};
-ghost use Rattle.query_forms.specs.ShownQueries.{shown_answer};
+ghost use Rattle.query_texts.specs.forms.ShownQueries.{shown_answer};
 ghost use Rattle.query_texts.specs.QueryTexts.{answer_bytes};
 ghost use Rattle.clause_texts.specs.declared.tables.TableNames.{TableNames};
 

@@ -8,15 +8,15 @@ use Rattle.tree_texts.specs.FormPlans as plan
 use Rattle.tree_texts.specs.Forms.{ExprForm, KeyForm}
 use Rattle.tree_texts.specs.Phrases.{direction, key, more_keys, ordered, grouped, more_groups}
 use Rattle.clause_texts.specs.Names.{outermost}
-use Rattle.query_forms.specs.ShownExpressions.{never, never_arms, beside}
-use Rattle.query_forms.specs.ShownQueries.{own_column, own_columns, key_form, all_keys, called_from}
+use Rattle.query_texts.specs.forms.ShownExpressions.{never, never_arms, beside}
+use Rattle.query_texts.specs.forms.ShownQueries.{own_column, own_columns, key_form, all_keys, called_from}
 use Rattle.expression_texts.specs.ExpressionTexts.{arms_text}
-use Rattle.query_forms.specs.Pieces.{said, expr_said}
+use Rattle.query_texts.specs.forms.Pieces.{said, expr_said}
 use Rattle.clause_texts.specs.ClauseTexts.{comma, grouped_column, grouped_text, direction_text, key_text, key_texts, position_text, order_text, called_items, nevers_text, beside_text}
 use Rattle.expression_texts.specs.Words.{name_text, number_text, null_text, reference_text, unless_none}
-use Rattle.query_forms.proofs.SaidExpressions.{arm_said, cases_said}
-use Rattle.query_forms.proofs.SaidLists.{comma_next}
-use Rattle.query_forms.proofs.SaidOperators.{null_said}
+use Rattle.query_texts.proofs.SaidExpressions.{arm_said, cases_said}
+use Rattle.query_texts.proofs.SaidLists.{comma_next}
+use Rattle.query_texts.proofs.SaidOperators.{null_said}
 
 -- ---- sublinks beside an expression
 

@@ -1,6 +1,0 @@
-pub mod Said
-pub mod SaidClauses
-pub mod SaidExpressions
-pub mod SaidLists
-pub mod SaidOperators
-pub mod SaidQueries
