@@ -9,10 +9,10 @@ ghost use Rattle.monotone_queries.specs.Conditions.{ConditionFits};
 ghost use Rattle.monotone_queries.specs.Monotone.{is_monotone};
 ghost use Rattle.delete_impact.specs.reduced.Reduced.{behind, missing};
 
+use crate::reduced::{behind, first_kinds, hides_none, missing, missing_part, splits};
 use bag_algebra::{Expr, Query, faultless};
 use contribution::{always, kinds as columns, null_items, projection, selection};
 use perm_values::{Copyable, Kind, List, NoMemory, Value, both};
-use crate::reduced::{behind, first_kinds, hides_none, missing, missing_part, splits};
 use std::alloc::Global;
 
 /// A query that answers which rows of a monotone, closed query vanish where the rows of the table of the identity that meet the

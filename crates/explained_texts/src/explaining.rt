@@ -11,12 +11,12 @@ use crate::reading::read_again;
 use answer_texts::a_text_explains_all_that_means_the_same;
 use bag_algebra::Answer;
 use clause_texts::TableNames;
-use laid_texts::in_lines;
 use named_texts::named_text;
 use perm_catalog::Catalog;
 use perm_values::{Bytes, Chars, Copyable, NoMemory};
 use sql_printer::{print, tables_named};
 use std::alloc::Global;
+use tree_texts::in_lines;
 
 /// Of a plain text that has more bytes, no other is looked for: it is more than people read.
 const LONGEST: usize = 65536;

@@ -9,7 +9,7 @@ use Rattle.sql_grammar.specs.Sorts.{same_sort, sort_by, sort_of, symbol_sort, wo
 use Rattle.sql_grammar.specs.declared.sort.Sort.{Sort}
 use Rattle.sql_grammar.specs.declared.sort.Sort.TheVariants as s
 use Rattle.sql_parser.specs.Nesting.{after, first_beyond, too_deep}
-use Rattle.sql_plans.specs.Plans.{tokens_of}
+use Rattle.tree_texts.specs.plans.Plans.{tokens_of}
 use Rattle.generated_scripts.proofs.Parts.{more_rows}
 use Rattle.generated_scripts.proofs.ScriptPlan.{big_at, others, script}
 

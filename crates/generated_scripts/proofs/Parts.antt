@@ -7,11 +7,11 @@ use Rattle.sql_grammar.specs.Rules.{◌then◌, many, symbol, word}
 use Rattle.sql_grammar.specs.Sorts.{names, word_sort}
 use Rattle.sql_grammar.specs.Symbols as n
 use Rattle.sql_grammar.specs.declared.sort.Sort.TheVariants as s
-use Rattle.sql_plans.specs.Blanks.{Blank, left_out, none, both_blank, blank_symbol}
-use Rattle.sql_plans.specs.Levels.{core, expression, inner, operand, query, reference, tested, to_compared, to_product, to_sign, to_sum}
-use Rattle.sql_plans.specs.Levels as levels
-use Rattle.sql_plans.specs.Plans.{OneOf, Plan, here, there, a_word, a_choice, a_token, both, before, behind, first, second, front_second, present, no_more, one_more, one_last, at_start, as_symbol}
-use Rattle.sql_plans.specs.Written.{token_of}
+use Rattle.tree_texts.specs.plans.Blanks.{Blank, left_out, none, both_blank, blank_symbol}
+use Rattle.tree_texts.specs.plans.Levels.{core, expression, inner, operand, query, reference, tested, to_compared, to_product, to_sign, to_sum}
+use Rattle.tree_texts.specs.plans.Levels as levels
+use Rattle.tree_texts.specs.plans.Plans.{OneOf, Plan, here, there, a_word, a_choice, a_token, both, before, behind, first, second, front_second, present, no_more, one_more, one_last, at_start, as_symbol}
+use Rattle.tree_texts.specs.plans.Written.{token_of}
 
 -- ---- names and columns
 

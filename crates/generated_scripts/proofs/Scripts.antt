@@ -7,8 +7,8 @@ use Rattle.sql_lexer.specs.declared.token.Token.{Token}
 use Rattle.sql_parser.specs.Nesting.{too_deep}
 use Rattle.sql_parser.specs.Spells.{Spells}
 use Rattle.sql_tree.specs.declared.statement.Script.{Script}
-use Rattle.sql_plans.specs.Plans.{tokens_of, value}
-use Rattle.sql_plans.proofs.Planned.{plan_spelled, text_is_read}
+use Rattle.tree_texts.specs.plans.Plans.{tokens_of, value}
+use Rattle.tree_texts.proofs.Planned.{plan_spelled, text_is_read}
 use Rattle.generated_scripts.specs.Generated.{generated}
 use Rattle.generated_scripts.proofs.Nested.{script_nests}
 use Rattle.generated_scripts.proofs.ScriptPlan.{script, script_text}

@@ -13,8 +13,8 @@ use Rattle.sql_lexer.specs.Printing.{CanSpell}
 use Rattle.sql_lexer.specs.declared.token.TokenKind.{TokenKind}
 use Rattle.sql_lexer.specs.declared.token.TokenKind.TheVariants.{Word, Quoted, Number, Text, Symbol}
 use Rattle.sql_grammar.specs.Grammar.{SqlRule}
-use Rattle.sql_plans.specs.Plans.{Plan, Told, a_word, a_choice, a_token, before, behind, first, second, front_first, front_second, absent, present, no_more, one_more, one_last, at_start, as_symbol}
-use Rattle.sql_plans.specs.Plans as plans
+use Rattle.tree_texts.specs.plans.Plans.{Plan, Told, a_word, a_choice, a_token, before, behind, first, second, front_first, front_second, absent, present, no_more, one_more, one_last, at_start, as_symbol}
+use Rattle.tree_texts.specs.plans.Plans as plans
 use Rattle.generated_scripts.specs.Generated.{big_row, big_rows, comma, generated, queries, small_rows, tables}
 use Rattle.generated_scripts.proofs.Parts.{more_rows}
 use Rattle.generated_scripts.proofs.Rows.{line}

@@ -32,10 +32,12 @@ ghost use Rattle.run_meaning.specs.Run.{Runs, RunsFrom, RunsNamed, RunsScript, s
 use crate::session::Session;
 use command_words::{Wanted, read_words};
 use generated_scripts::generated;
-use run_meaning::{SCRIPT_LIMIT, Status, every_run_is_told_by_the_headline, finish, refuse, script_of, stop};
 use name_statements::let_statements_go;
 use perm_io::{Files, ReadError, Sink, read_all, write_all};
 use perm_values::{Chars, List, NoMemory};
+use run_meaning::{
+    SCRIPT_LIMIT, Status, every_run_is_told_by_the_headline, finish, refuse, script_of, stop,
+};
 use sql_parser::a_spelled_script_is_regular;
 use sql_tree::Statement;
 use std::alloc::Global;

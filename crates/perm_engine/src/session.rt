@@ -13,7 +13,6 @@ ghost use Rattle.statement_steps.specs.Running.{KeepsRun};
 ghost use Rattle.run_meaning.specs.Resolving.{IsDue, Resolves};
 ghost use Rattle.perm_engine.specs.Sessions.{begun_with};
 
-use stored_provenance::catalogs_stay_sound;
 use name_analysis::resolve;
 use name_meaning::Resolved;
 use name_seen_parts::Refusal;
@@ -30,6 +29,7 @@ use statement_meaning::StepRefusal;
 use statement_steps::Runner;
 use std::alloc::Global;
 use std::marker::Model;
+use stored_provenance::catalogs_stay_sound;
 
 /// Runs statements one after another over a sound catalog, and keeps the last run of a query. Contracts see it as both.
 #[derive(Drop)]

@@ -3,9 +3,9 @@ ghost use Rattle.std.specs.Prelude.{◌≡◌, ◌≤◌, ◌+◌, ◌++◌, IfO
 ghost use Rattle.refusal_notes.specs.places.Places.{back_to_feed, begins_character};
 ghost use Rattle.refusal_notes.specs.Excerpts.{behind_at, behind_piece, blank, continued, excerpt, front_at, front_piece, shown};
 
+use crate::places::line_at;
 use crate::read::from;
 use perm_values::{Bytes, NoMemory};
-use crate::places::line_at;
 use std::alloc::Global;
 
 /// How many bytes of the line are shown to each side of the place, at about.

@@ -8,11 +8,11 @@ ghost use Rattle.refusal_notes.specs.Sentences.{sentence};
 
 use crate::cause::Cause;
 use crate::excerpt::{add_excerpt, shown_text};
+use crate::places::place_of;
 use crate::sentence::sentence;
 use csv_tables::DataError;
 use itoa::Buffer;
 use perm_values::{Bytes, NoMemory};
-use crate::places::place_of;
 use std::alloc::Global;
 
 /// The note on a cause, with the name of the file that it speaks of, and of one at an offset the script. A number that no cause has

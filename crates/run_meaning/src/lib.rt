@@ -10,7 +10,12 @@ mod status;
 mod steps;
 mod stopping;
 
-pub use headline::{a_query_has_the_word_or_not, a_query_is_refused_or_asks, a_run_is_the_course_of_its_statements, every_run_is_told_by_the_headline, the_contents_of_a_run_are_sound, the_word_in_from_asks_for_provenance, without_the_word_a_query_breaks_no_more, without_the_word_no_provenance_stands_in_front};
+pub use headline::{
+    a_query_has_the_word_or_not, a_query_is_refused_or_asks, a_run_is_the_course_of_its_statements,
+    every_run_is_told_by_the_headline, the_contents_of_a_run_are_sound,
+    the_word_in_from_asks_for_provenance, without_the_word_a_query_breaks_no_more,
+    without_the_word_no_provenance_stands_in_front,
+};
 pub use laws::bytes_are_one_script;
 pub use sameness::{a_misspelling_has_one_break, told_files_have_one_run};
 pub use script::{SCRIPT_LIMIT, script_of};

@@ -16,4 +16,7 @@ pub use filters::{Parts, all_fault_free, filter_parts};
 pub use lowering::{lowered, own_place, own_places};
 pub use nodes::{filter_on, inner_join, tested};
 pub use pairs::{Sides, join_sides};
-pub use standing::{add_standing, aggregate_standing, apply_standing, except_standing, filter_standing, intersect_standing, join_standing, limit_standing, project_standing, table, union_standing};
+pub use standing::{
+    add_standing, aggregate_standing, apply_standing, except_standing, filter_standing,
+    intersect_standing, join_standing, limit_standing, project_standing, table, union_standing,
+};

@@ -5,7 +5,7 @@ use Rattle.std.specs.Str.{IsUtf8}
 use Rattle.perm_values.specs.declared.key.Key.{Key}
 use Rattle.perm_values.specs.declared.kind.Kind.{Kind}
 use Rattle.sql_lexer.specs.declared.token.Token.{Token}
-use Rattle.sql_plans.specs.Plans.{tokens_of}
+use Rattle.tree_texts.specs.plans.Plans.{tokens_of}
 use Rattle.bag_algebra.specs.Kinds.{kinds_of}
 use Rattle.bag_algebra.specs.Rewriting.{is_plain}
 use Rattle.bag_algebra.specs.TablesRead.{EachTable}
@@ -23,7 +23,7 @@ use Rattle.tree_texts.specs.Texts.{query_text, shown_tokens}
 use Rattle.tree_texts.specs.Trees.{IsQuery}
 use Rattle.tree_texts.proofs.FormsSound.{query_sound}
 use Rattle.tree_texts.proofs.Standing.{all_stand}
-use Rattle.laid_texts.specs.Lines.{EndsScript}
+use Rattle.tree_texts.specs.layout.Lines.{EndsScript}
 use Rattle.query_texts.specs.forms.ShownQueries.{shown_answer}
 use Rattle.query_texts.proofs.Said.{said_is}
 use Rattle.query_texts.proofs.SaidQueries.{answer_said}

@@ -6,15 +6,15 @@ ghost use Rattle.bag_algebra.specs.TablesRead.{EachTable};
 ghost use Rattle.perm_catalog.specs.Sound.{IsSound, IsSoundAnswer};
 ghost use Rattle.stored_provenance.specs.Held.{IsHeldTable};
 
+use crate::answers::{a_printed_answer_is_read_back, a_printed_answer_means_the_answer};
+use crate::forms::{printable, see_names, see_tables};
 use crate::naming::tables_named;
 use bag_algebra::Answer;
-use laid_texts::in_lines;
 use perm_catalog::Catalog;
 use perm_values::{Bytes, NoMemory};
-use crate::forms::{printable, see_names, see_tables};
-use crate::answers::{a_printed_answer_is_read_back, a_printed_answer_means_the_answer};
 use query_texts::query_text;
 use std::alloc::Global;
+use tree_texts::in_lines;
 
 /// The text of an answer without PROVENANCE, in lines, ended by `;` and a newline: a query over the catalog's
 /// tables that means what the answer means, whatever rows they have. It fails only for want of memory.

@@ -1,8 +1,10 @@
 pub mod FormTexts
 pub mod FormTrees
 pub mod FormsSound
-pub mod Laid
+pub mod Levels
+pub mod Planned
 pub mod Shown
 pub mod Standing
 pub mod TextsRead
 pub mod Words
+pub mod Written

@@ -17,10 +17,10 @@ use Rattle.sql_grammar.specs.Rules.{◌then◌, many, Spelled, StartsAt}
 use Rattle.sql_grammar.specs.Sorts.{sort_of, sort_by}
 use Rattle.sql_grammar.specs.declared.sort.Sort.{Sort}
 use Rattle.sql_grammar.specs.declared.sort.Sort.TheVariants as s
-use Rattle.sql_plans.specs.Blanks.{Blank, left_out, none, both_blank, blank_symbol, blank_value}
-use Rattle.sql_plans.specs.Plans.{OneOf, here, there, Plan, a_word, a_choice, a_token, both, before, behind, first, second, front_first, front_second, absent, present, no_more, one_more, one_last, at_start, as_symbol, tokens_of}
-use Rattle.sql_plans.specs.Written.{is_written, token_for}
-use Rattle.sql_plans.proofs.Written.{sorted, spellable}
+use Rattle.tree_texts.specs.plans.Blanks.{Blank, left_out, none, both_blank, blank_symbol, blank_value}
+use Rattle.tree_texts.specs.plans.Plans.{OneOf, here, there, Plan, a_word, a_choice, a_token, both, before, behind, first, second, front_first, front_second, absent, present, no_more, one_more, one_last, at_start, as_symbol, tokens_of}
+use Rattle.tree_texts.specs.plans.Written.{is_written, token_for}
+use Rattle.tree_texts.proofs.Written.{sorted, spellable}
 use Rattle.tree_texts.specs.Standing.{Span, Places, at_span, standing, given, CanStand, Sound}
 
 -- ---- what tokens spell

@@ -4,7 +4,7 @@ use Rattle.sql_grammar.specs.Symbols as n
 use Rattle.sql_parser.specs.Texts.{IsTextOf}
 use Rattle.sql_tree.specs.declared.query.QueryTree.{QueryTree}
 use Rattle.sql_tree.specs.declared.statement.Script.{Script}
-use Rattle.sql_plans.specs.Plans.{tokens_of}
+use Rattle.tree_texts.specs.plans.Plans.{tokens_of}
 use Rattle.tree_texts.specs.Fits.{FitsQuery}
 use Rattle.tree_texts.specs.FormPlans as plan
 use Rattle.tree_texts.specs.Forms.{QueryForm}

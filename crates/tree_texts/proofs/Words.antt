@@ -12,8 +12,8 @@ use Rattle.sql_grammar.specs.Sorts.{same_sort, word_sort, symbol_sort}
 use Rattle.sql_grammar.specs.declared.sort.Sort.TheVariants as s
 use Rattle.sql_tree.specs.declared.expression.ExprBody.TheVariants as e
 use Rattle.sql_tree.specs.declared.source.JoinWord.TheVariants as join
-use Rattle.sql_plans.specs.Levels.{a_number}
-use Rattle.sql_plans.specs.Written.{token_for}
+use Rattle.tree_texts.specs.plans.Levels.{a_number}
+use Rattle.tree_texts.specs.plans.Written.{token_for}
 use Rattle.tree_texts.specs.Forms as f
 use Rattle.tree_texts.specs.Forms.{Additive, Multiplicative, Folded, United}
 use Rattle.tree_texts.specs.Phrases.{maybe_not, maybe_all, maybe_distinct, direction, comparison, truth_word, additive, multiplicative, folding, uniting, kind_word, text_literal, truth_literal, limited}

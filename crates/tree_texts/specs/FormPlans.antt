@@ -3,9 +3,9 @@ use Rattle.std.specs.Prelude.{ℕ, List, Option, refl}
 use Rattle.sql_grammar.specs.Rules.{word, ◌then◌, many, symbol}
 use Rattle.sql_grammar.specs.Symbols as n
 use Rattle.sql_grammar.specs.declared.sort.Sort.TheVariants as s
-use Rattle.sql_plans.specs.Blanks.{blank_symbol, left_out, none}
-use Rattle.sql_plans.specs.Levels.{a_name, a_number, literal, reference, to_sign, to_product, to_sum, to_compared, to_test, to_both, to_expr, operand, expression, parens}
-use Rattle.sql_plans.specs.Plans.{Plan, here, there, a_word, a_choice, both, before, behind, first, second, front_second, absent, present, no_more, one_more, one_last, at_start, as_symbol}
+use Rattle.tree_texts.specs.plans.Blanks.{blank_symbol, left_out, none}
+use Rattle.tree_texts.specs.plans.Levels.{a_name, a_number, literal, reference, to_sign, to_product, to_sum, to_compared, to_test, to_both, to_expr, operand, expression, parens}
+use Rattle.tree_texts.specs.plans.Plans.{Plan, here, there, a_word, a_choice, both, before, behind, first, second, front_second, absent, present, no_more, one_more, one_last, at_start, as_symbol}
 use Rattle.tree_texts.specs.Forms as f
 use Rattle.tree_texts.specs.Forms.{ExprForm, CompoundForm, ExprForms, SumForms, ProductForms, ArmForms, ItemForms, SourceForm, JoinForms, FromForm, ConditionForm, CoreForm, UnionForms, IntersectForms, QueryForm}
 use Rattle.tree_texts.specs.Phrases.{maybe_not, maybe_distinct, comparison, truth_word, folding, joining, joining_lateral, reference_to, text_literal, truth_literal, typed_null, alias, grouped, enclosing, to_factor, to_term, to_part, sum_step, product_step, behind_and, behind_or, behind_comma, from_ranged, from_sum, from_negated, from_test, cast_alone, case_alone, exists_alone, parentheses_alone, count_alone, aggregate_alone, coalesce_alone, null_if_alone, behind_operand, ranging, testing, union_step, intersect_step, resting, whole_query, inner_query}

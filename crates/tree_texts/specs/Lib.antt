@@ -6,3 +6,5 @@ pub mod Phrases
 pub mod Standing
 pub mod Texts
 pub mod Trees
+pub mod plans
+pub mod layout

@@ -11,10 +11,10 @@ use Rattle.sql_grammar.specs.Grammar.{SqlRule, lateral}
 use Rattle.sql_grammar.specs.Rules.{word, token, ◌then◌, ◌or◌, optional, many, symbol}
 use Rattle.sql_grammar.specs.Symbols as n
 use Rattle.sql_grammar.specs.declared.sort.Sort.TheVariants as s
-use Rattle.sql_plans.specs.Blanks.{blank_symbol, left_out, none}
-use Rattle.sql_plans.specs.Levels.{a_name, number_token, to_sign, to_product, to_sum, to_ranged, to_compared, to_test, to_negated, to_both, to_expr, operand, tested, expression}
-use Rattle.sql_plans.specs.Plans.{Plan, here, there, a_word, a_choice, a_token, both, before, behind, first, second, front_first, front_second, absent, present, no_more, one_more, at_start, as_symbol}
-use Rattle.sql_plans.specs.Written.{token_of}
+use Rattle.tree_texts.specs.plans.Blanks.{blank_symbol, left_out, none}
+use Rattle.tree_texts.specs.plans.Levels.{a_name, number_token, to_sign, to_product, to_sum, to_ranged, to_compared, to_test, to_negated, to_both, to_expr, operand, tested, expression}
+use Rattle.tree_texts.specs.plans.Plans.{Plan, here, there, a_word, a_choice, a_token, both, before, behind, first, second, front_first, front_second, absent, present, no_more, one_more, at_start, as_symbol}
+use Rattle.tree_texts.specs.plans.Written.{token_of}
 use Rattle.tree_texts.specs.Forms as f
 use Rattle.tree_texts.specs.Forms.{ColumnForm, Additive, Multiplicative, Folded, Joined, United, KeyForm}
 

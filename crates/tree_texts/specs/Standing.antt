@@ -5,9 +5,9 @@ use Rattle.std.specs.Str.{IsUtf8}
 use Rattle.sql_lexer.specs.Printing.{plain_spelled, IsSpellable}
 use Rattle.sql_lexer.specs.declared.token.Token.{Token}
 use Rattle.sql_grammar.specs.Grammar.{SqlRule, Given, build}
-use Rattle.sql_plans.specs.Blanks.{blank_value}
-use Rattle.sql_plans.specs.Plans.{Plan, a_word, a_choice, a_token, both, before, behind, first, second, front_first, front_second, absent, present, no_more, one_more, one_last, at_start, as_symbol, tokens_of}
-use Rattle.sql_plans.specs.Written.{token_for}
+use Rattle.tree_texts.specs.plans.Blanks.{blank_value}
+use Rattle.tree_texts.specs.plans.Plans.{Plan, a_word, a_choice, a_token, both, before, behind, first, second, front_first, front_second, absent, present, no_more, one_more, one_last, at_start, as_symbol, tokens_of}
+use Rattle.tree_texts.specs.plans.Written.{token_for}
 
 pub record Span : Type 0 where
   pub start : ℕ

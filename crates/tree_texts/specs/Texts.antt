@@ -1,16 +1,15 @@
 -- The text of a form: words in capital letters, names in quotes, and a blank behind each token.
-use Rattle.std.specs.Prelude.{◌≡◌, ℕ, ℤ, zero, suc, ◌+◌, true, List, [], ◌∷◌, ◌++◌, length, refl}
-use Rattle.std.specs.List.{flat_map, list_all}
+use Rattle.std.specs.Prelude.{ℕ, ℤ, zero, suc, ◌+◌, List, [], ◌∷◌, ◌++◌, length, refl}
+use Rattle.std.specs.List.{flat_map}
 use Rattle.std.specs.Str.{str_to_ascii_uppercase}
-use Rattle.sql_lexer.specs.Bytes.{is_blank}
 use Rattle.sql_lexer.specs.Printing.{bytes_of}
 use Rattle.sql_lexer.specs.declared.token.Token.{Token}
 use Rattle.sql_lexer.specs.declared.token.TokenKind.{TokenKind}
 use Rattle.sql_lexer.specs.declared.token.TokenKind.TheVariants.{Word, Quoted, Number, Text, Symbol}
 use Rattle.sql_grammar.specs.Rules.{symbol}
 use Rattle.sql_grammar.specs.Symbols as n
-use Rattle.sql_plans.specs.Blanks.{left_out}
-use Rattle.sql_plans.specs.Plans.{Plan, a_word, both, before, second, present, one_last, at_start, as_symbol, tokens_of}
+use Rattle.tree_texts.specs.plans.Blanks.{left_out}
+use Rattle.tree_texts.specs.plans.Plans.{Plan, a_word, both, before, second, present, one_last, at_start, as_symbol, tokens_of}
 use Rattle.tree_texts.specs.FormPlans as plan
 use Rattle.tree_texts.specs.Forms.{ExprForm, QueryForm}
 use Rattle.tree_texts.specs.Standing.{Places}
@@ -28,17 +27,6 @@ shown token = shown_by token.kind token.spelled token.number
 
 abbrev pub shown_tokens : List Token → List ℕ
 shown_tokens tokens = flat_map (λ token. shown token ++ 32 ∷ []) tokens
-
--- what may stand behind a token: blanks, one at least
-abbrev pub IsGap : List ℕ → Type 0
-IsGap [] = ⊥
-IsGap (b ∷ more) = (is_blank b ≡ true) × (list_all is_blank more ≡ true)
-
--- the text of tokens with any blanks behind each: lines may be broken and set further in
-abbrev pub IsLaid : List Token → List ℕ → Type 0
-IsLaid [] text = text ≡ []
-IsLaid (token ∷ tokens) text =
-    (gap : List ℕ) × (more : List ℕ) × IsGap gap × (text ≡ shown token ++ (gap ++ more)) × IsLaid tokens more
 
 -- where they stand, if the first stands at a place
 abbrev pub places_from : ℕ → List Token → Places

@@ -9,12 +9,12 @@ ghost use Rattle.sql_grammar.specs.Symbols as n;
 ghost use Rattle.sql_parser.specs.Texts.{IsTextOf};
 ghost use Rattle.sql_tree.specs.declared.query.QueryTree.{QueryTree};
 ghost use Rattle.sql_tree.specs.declared.statement.Script.{Script};
-ghost use Rattle.sql_plans.specs.Plans.{Plan, tokens_of};
+ghost use Rattle.tree_texts.specs.plans.Plans.{Plan, tokens_of};
 ghost use Rattle.tree_texts.specs.Fits.{FitsQuery};
 ghost use Rattle.tree_texts.specs.FormPlans as plan;
 ghost use Rattle.tree_texts.specs.Forms.{QueryForm};
 ghost use Rattle.tree_texts.specs.Standing.{Places, CanStand, given, standing};
-ghost use Rattle.tree_texts.specs.Texts.{IsLaid, places_from, query_text, script, script_text, shown_tokens};
+ghost use Rattle.tree_texts.specs.Texts.{places_from, query_text, script, script_text, shown_tokens};
 ghost use Rattle.tree_texts.specs.Trees.{IsQuery, IsScript};
 
 /// The tokens of a plan spell its tree wherever they stand.
@@ -27,12 +27,6 @@ pub fn a_plan_spells_its_tree_anywhere()
 pub fn shown_tokens_are_read()
     ensures { (tokens : List Token) → AllByRecursion CanStand tokens
         → Lexes (shown_tokens tokens) (standing (places_from 0 tokens) 0 tokens) }
-{}
-
-/// So are tokens with any blanks behind each, wherever these make them stand.
-pub fn laid_tokens_are_read()
-    ensures { (tokens : List Token) (text : List ℕ) → AllByRecursion CanStand tokens → IsLaid tokens text
-        → (places : Places) × Lexes text (standing places 0 tokens) }
 {}
 
 /// A text that is split into the tokens of a form, with any blanks between them, is a text of a tree of the form.

@@ -5,9 +5,9 @@ use Rattle.sql_grammar.specs.Grammar.{derived as derived_rule}
 use Rattle.sql_grammar.specs.Rules.{◌then◌, symbol}
 use Rattle.sql_grammar.specs.Symbols as n
 use Rattle.sql_grammar.specs.declared.sort.Sort.TheVariants as s
-use Rattle.sql_plans.specs.Blanks.{Blank, left_out, none, both_blank, blank_symbol}
-use Rattle.sql_plans.specs.Levels.{a_name, a_number, a_column, literal, reference, operand, tested, expression, query, inner, core, enclosed, in_parentheses}
-use Rattle.sql_plans.specs.Plans.{Plan, here, a_word, a_choice, both, before, behind, first, second, front_first, front_second, present, one_last, at_start, as_symbol, text_of}
+use Rattle.tree_texts.specs.plans.Blanks.{Blank, left_out, none, both_blank, blank_symbol}
+use Rattle.tree_texts.specs.plans.Levels.{a_name, a_number, a_column, literal, reference, operand, tested, expression, query, inner, core, enclosed, in_parentheses}
+use Rattle.tree_texts.specs.plans.Plans.{Plan, here, a_word, a_choice, both, before, behind, first, second, front_first, front_second, present, one_last, at_start, as_symbol, text_of}
 
 -- ---- parts
 

@@ -19,7 +19,7 @@ use Rattle.sql_tree.specs.declared.source.FromTree.{FromTree, roll-FromTree}
 use Rattle.sql_tree.specs.declared.source.JoinStep.{roll-JoinStep}
 use Rattle.sql_tree.specs.declared.source.JoinWord.TheVariants.{Inner, LeftLateral}
 use Rattle.sql_tree.specs.declared.source.ScopeMark.TheVariants.{Plain}
-use Rattle.sql_plans.specs.Plans.{value}
+use Rattle.tree_texts.specs.plans.Plans.{value}
 use Rattle.worked_examples.specs.PlannedTexts.{select_join, select_lateral, union, select_exists}
 
 -- ---- nodes, each at its offset

@@ -1,13 +1,13 @@
 -- A script of the tokens of a form is read as one query of the form.
 use Rattle.std.proofs.Common.{ℕ, List}
-use Rattle.sql_plans.specs.Plans.{tokens_of}
+use Rattle.tree_texts.specs.plans.Plans.{tokens_of}
 use Rattle.tree_texts.specs.FormPlans as plan
 use Rattle.tree_texts.specs.Forms.{QueryForm}
 use Rattle.tree_texts.specs.Standing.{given, standing}
 use Rattle.tree_texts.specs.Texts.{script}
 use Rattle.tree_texts.proofs.FormTrees.{query_is}
 use Rattle.tree_texts.proofs.Standing.{given_spelled}
-use Rattle.laid_texts.specs.Lines.{EndsScript}
+use Rattle.tree_texts.specs.layout.Lines.{EndsScript}
 use Rattle.sql_printer.specs.forms.EndedTexts.{IsTextOfForm}
 use Rattle.sql_printer.proofs.forms.PlainWords.{form-plain}
 

@@ -17,9 +17,9 @@ use Rattle.sql_grammar.specs.Sorts.{same_sort, sort_by, sort_of}
 use Rattle.sql_grammar.specs.Symbols as n
 use Rattle.sql_grammar.specs.declared.sort.Sort.{Sort}
 use Rattle.sql_grammar.specs.declared.sort.Sort.TheVariants as s
-use Rattle.sql_plans.specs.Levels.{expression}
-use Rattle.sql_plans.specs.Plans.{Plan, a_word, a_choice, a_token, both, before, behind, first, second, front_first, front_second, absent, present, no_more, one_more, one_last, at_start, as_symbol, tokens_of}
-use Rattle.sql_plans.proofs.Written.{sorted}
+use Rattle.tree_texts.specs.plans.Levels.{expression}
+use Rattle.tree_texts.specs.plans.Plans.{Plan, a_word, a_choice, a_token, both, before, behind, first, second, front_first, front_second, absent, present, no_more, one_more, one_last, at_start, as_symbol, tokens_of}
+use Rattle.tree_texts.proofs.Written.{sorted}
 use Rattle.tree_texts.specs.FormPlans as plan
 use Rattle.tree_texts.specs.Forms as f
 use Rattle.tree_texts.specs.Forms.{ColumnForm, Additive, Multiplicative, Folded, Joined, United, KeyForm, ExprForm, CompoundForm, ExprForms, SumForms, ProductForms, ArmForms, ItemForms, SourceForm, JoinForms, FromForm, ConditionForm, CoreForm, UnionForms, IntersectForms, QueryForm}

@@ -1,5 +1,0 @@
-use Rattle.sql_plans.proofs.Planned.{text_is_read}
-use Rattle.sql_plans.proofs.laws.a_plan_is_read.Goals as goal
-
-pub returns : goal.returns
-returns c = λ rule p told utf8. text_is_read p told utf8

@@ -1,8 +1,0 @@
-use Rattle.sql_plans.proofs.Levels.{alone, enclosed_alone}
-use Rattle.sql_plans.proofs.laws.levels_add_no_node.Goals as goal
-
-pub returns-clause-alone : goal.returns-clause-alone
-returns-clause-alone c = alone
-
-pub returns-clause-enclosed : goal.returns-clause-enclosed
-returns-clause-enclosed c = enclosed_alone

@@ -1,8 +1,0 @@
-use Rattle.sql_plans.proofs.Written.{sorted, spellable}
-use Rattle.sql_plans.proofs.laws.written_sorts_have_tokens.Goals as goal
-
-pub returns-clause-sorted : goal.returns-clause-sorted
-returns-clause-sorted c = sorted
-
-pub returns-clause-spellable : goal.returns-clause-spellable
-returns-clause-spellable c = spellable
