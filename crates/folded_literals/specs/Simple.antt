@@ -9,7 +9,7 @@ use Rattle.bag_algebra.specs.declared.query.Query.{Query, Row_of-Sublink, more_o
 use Rattle.bag_algebra.specs.declared.query.Query.TheVariants.{Table, Single}
 use Rattle.query_laws.specs.EveryExpression.{option_passes, items_pass, arguments_pass}
 use Rattle.simpler_laws.specs.Conjuncts.{is_always}
-use Rattle.merged_nodes.specs.Once.{gives_once}
+use Rattle.simpler_laws.specs.merged.Once.{gives_once}
 use Rattle.folded_literals.specs.Settled.{is_settled}
 
 -- the literal TRUE

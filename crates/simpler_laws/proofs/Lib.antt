@@ -3,8 +3,12 @@ pub mod CalmFilters
 pub mod ColumnItems
 pub mod Gathered
 pub mod InnerJoins
+pub mod MergedProjects
+pub mod OnceRows
 pub mod Parting
 pub mod Reading
+pub mod SingleJoins
 pub mod StandingParts
+pub mod SubstitutedVariants
 pub mod TestedQueries
 pub mod Testing

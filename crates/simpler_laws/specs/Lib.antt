@@ -6,3 +6,4 @@ pub mod Sides
 pub mod Tested
 pub mod built
 pub mod standing
+pub mod merged

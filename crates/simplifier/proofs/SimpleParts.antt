@@ -5,7 +5,7 @@ use Rattle.perm_values.specs.declared.no_memory.NoMemory.{NoMemory}
 use Rattle.bag_algebra.specs.declared.query.Query.{Query}
 use Rattle.simpler_laws.proofs.StandingParts.{where_made}
 use Rattle.simpler_laws.specs.standing.Made.{IsMade, IsMadeOfBoth}
-use Rattle.merged_nodes.specs.Once.{IsMadeOnce, itself, over}
+use Rattle.simpler_laws.specs.merged.Once.{IsMadeOnce, itself, over}
 use Rattle.folded_literals.specs.Simple.{is_simple}
 use Rattle.folded_literals.specs.built.Simple.{simple-Distinct}
 

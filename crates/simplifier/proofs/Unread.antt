@@ -21,8 +21,8 @@ use Rattle.bag_algebra.specs.declared.query.Query.TheVariants.{Project}
 use Rattle.bag_algebra.specs.declared.query.SubKind.TheVariants.{Exists}
 use Rattle.query_laws.specs.EveryExpression.{items_pass}
 use Rattle.simpler_laws.proofs.TestedQueries.{by}
-use Rattle.merged_nodes.proofs.SubstitutedVariants.{item-value, rest-calm}
-use Rattle.merged_nodes.specs.Substituted.{row_of_items}
+use Rattle.simpler_laws.proofs.SubstitutedVariants.{item-value, rest-calm}
+use Rattle.simpler_laws.specs.merged.Substituted.{row_of_items}
 use Rattle.folded_literals.specs.Settled.{is_settled}
 use Rattle.folded_literals.specs.Simple.{is_simple}
 use Rattle.folded_literals.specs.built.Simple.{simple-Project}

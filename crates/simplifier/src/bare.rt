@@ -4,7 +4,7 @@ ghost use Rattle.bag_algebra.specs.FaultFree.{items_faultless};
 ghost use Rattle.simplifier.specs.Bare.{AllBared, IsBared, IsUnread, StandsUnread};
 
 use bag_algebra::{Item, Query, SubKind, Sublink, faultless};
-use merged_nodes::input_of;
+use simpler_laws::input_of;
 use perm_values::List;
 use std::mem::replace;
 

@@ -11,10 +11,9 @@ ghost use Rattle.simpler_laws.specs.Tested.{tested};
 
 use crate::forced::forced;
 use bag_algebra::{Expr, JoinKind, Query, Sublink};
-use merged_nodes::inner_pairs;
+use simpler_laws::{filter_on, filter_standing, inner_pairs, join_standing, tested};
 use perm_values::{List, NoMemory};
 use raised_projects::{filter_raised, join_raised};
-use simpler_laws::{filter_on, filter_standing, join_standing, tested};
 use std::alloc::Global;
 
 /// The rows of a query of which all tests are true, over what stands for the query. It fails where that failed, and for want of

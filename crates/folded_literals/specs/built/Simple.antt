@@ -14,7 +14,7 @@ use Rattle.bag_algebra.specs.declared.query.Query.TheBlock.{shape-the_row-Sublin
 use Rattle.bag_algebra.specs.declared.query.Query.TheVariants.{Filter, Project, Join, Apply, Union, Intersect, Except, Distinct, Aggregate, Limit}
 use Rattle.bag_algebra.specs.declared.query.Sublink.{Sublink}
 use Rattle.query_laws.specs.EveryExpression.{option_passes, items_pass, arguments_pass}
-use Rattle.merged_nodes.specs.Once.{gives_once}
+use Rattle.simpler_laws.specs.merged.Once.{gives_once}
 use Rattle.folded_literals.specs.Settled.{is_settled}
 use Rattle.folded_literals.specs.Simple.{is_true, is_simple, subs_simple}
 

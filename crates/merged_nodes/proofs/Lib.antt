@@ -1,4 +1,0 @@
-pub mod MergedProjects
-pub mod OnceRows
-pub mod SingleJoins
-pub mod SubstitutedVariants
