@@ -8,6 +8,7 @@ mod below;
 mod folding;
 mod forced;
 mod passes;
+mod projections;
 mod raising;
 
 pub use passes::simplify;

@@ -13,7 +13,7 @@ use crate::forced::forced;
 use bag_algebra::{Expr, JoinKind, Query, Sublink};
 use simpler_laws::{filter_on, filter_standing, inner_pairs, join_standing, tested};
 use perm_values::{List, NoMemory};
-use raised_projects::{filter_raised, join_raised};
+use crate::projections::{filter_raised, join_raised};
 use std::alloc::Global;
 
 /// The rows of a query of which all tests are true, over what stands for the query. It fails where that failed, and for want of
