@@ -18,7 +18,7 @@ use sql_grammar::{Sort, same_sort, sort_of};
 use sql_lexer::{LexError, Token, tokens};
 use sql_parser::{SyntaxError, a_spelled_script_is_regular, script};
 use sql_tree::{Script, Statement, StatementBody};
-use statement_laws::whole_statements_are_ready;
+use statement_meaning::whole_statements_are_ready;
 use std::alloc::Global;
 
 fn is_plain_word(token: &Token) -> bool

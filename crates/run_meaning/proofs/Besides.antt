@@ -17,14 +17,14 @@ use Rattle.sql_tree.specs.declared.query.QueryTree.{QueryTree}
 use Rattle.sql_tree.specs.declared.query.SetTree.{SetTree}
 use Rattle.sql_tree.specs.declared.statement.Statement.{Statement}
 use Rattle.sql_tree.specs.declared.statement.StatementBody.TheVariants as st
-use Rattle.statement_laws.proofs.Answered.{listed-text}
-use Rattle.statement_laws.proofs.Nested.{found_beside, found-beside, meaning-good, nested-bad}
-use Rattle.statement_laws.proofs.Provenance.{fronts, one_provenance_text}
-use Rattle.statement_laws.proofs.Wide.{as-wide}
-use Rattle.statement_laws.proofs.Words.{without-word, word-names}
-use Rattle.statement_laws.specs.Asks.{AsksFor, HasWord, WithoutWord, with_body}
-use Rattle.statement_laws.specs.Beside.{IsBeside}
-use Rattle.statement_laws.specs.Printed.{ListsBeside}
+use Rattle.statement_meaning.proofs.Answered.{listed-text}
+use Rattle.statement_meaning.proofs.Nested.{found_beside, found-beside, meaning-good, nested-bad}
+use Rattle.statement_meaning.proofs.Provenance.{fronts, one_provenance_text}
+use Rattle.statement_meaning.proofs.Wide.{as-wide}
+use Rattle.statement_meaning.proofs.Words.{without-word, word-names}
+use Rattle.statement_meaning.specs.laws.Asks.{AsksFor, HasWord, WithoutWord, with_body}
+use Rattle.statement_meaning.specs.laws.Beside.{IsBeside}
+use Rattle.statement_meaning.specs.laws.Printed.{ListsBeside}
 use Rattle.statement_meaning.specs.Turns.{answer_text}
 use Rattle.run_meaning.proofs.Twins.{asks-resolves, twin}
 use Rattle.run_meaning.specs.headline.Answers.{AnswersBeside}

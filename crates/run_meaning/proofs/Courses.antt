@@ -5,8 +5,8 @@ use Rattle.bag_algebra.specs.declared.query.Answer.{Answer}
 use Rattle.perm_catalog.specs.Contents.{Contents}
 use Rattle.perm_io.specs.Found.{Found}
 use Rattle.sql_tree.specs.declared.statement.Statement.{Statement}
-use Rattle.statement_laws.proofs.Explained.{asked-explained}
-use Rattle.statement_laws.specs.Asks.{AsksToExplain}
+use Rattle.statement_meaning.proofs.Explained.{asked-explained}
+use Rattle.statement_meaning.specs.laws.Asks.{AsksToExplain}
 use Rattle.statement_meaning.specs.Answers.{Names, TakesTurn}
 use Rattle.statement_meaning.specs.Asking.{Asked, Settled, Begins, Explained, asked}
 use Rattle.statement_meaning.specs.Turns.{Turn, Accepted, Refused}

@@ -12,8 +12,8 @@ use Rattle.sql_tree.specs.declared.query.SetTree.{SetTree}
 use Rattle.sql_tree.specs.declared.statement.Statement.{Statement}
 use Rattle.sql_tree.specs.declared.statement.StatementBody.{StatementBody}
 use Rattle.sql_tree.specs.declared.statement.StatementBody.TheVariants as st
-use Rattle.statement_laws.proofs.Words.{without-word}
-use Rattle.statement_laws.specs.Asks.{AsksFor, HasWord, WithoutWord, with_body}
+use Rattle.statement_meaning.proofs.Words.{without-word}
+use Rattle.statement_meaning.specs.laws.Asks.{AsksFor, HasWord, WithoutWord, with_body}
 use Rattle.statement_meaning.specs.Answers.{TakesTurn}
 use Rattle.statement_meaning.specs.Asking.{Explained, asks}
 use Rattle.run_meaning.proofs.HeadlineSteps.{IsDone}

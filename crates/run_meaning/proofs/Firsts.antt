@@ -33,7 +33,7 @@ use Rattle.statement_meaning.specs.declared.refusal.StepRefusal.{StepRefusal}
 use Rattle.statement_meaning.specs.declared.refusal.StepRefusal.TheVariants as refusal
 use Rattle.run_meaning.specs.Run.{StopsBy, StopsAsked, StopsAt}
 use Rattle.run_meaning.specs.Stops.{IsFirst, IsRefused}
-use Rattle.statement_laws.proofs.Unspent.{IsUnspent, breaks-unspent}
+use Rattle.statement_meaning.proofs.Unspent.{IsUnspent, breaks-unspent}
 use Rattle.name_meaning.specs.declared.rule.Rule.TheVariants as rule
 
 pub refused-turn : (Can : List ℕ → Found → Type 0) (a : Asked) (old new : Contents) (refused : StepRefusal) → refused ≢ refusal.NoMemory →

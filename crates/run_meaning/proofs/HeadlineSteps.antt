@@ -13,9 +13,9 @@ use Rattle.name_meaning.specs.declared.answer.Resolved.{Resolved}
 use Rattle.statement_meaning.specs.Answers.{TakesTurn}
 use Rattle.statement_meaning.specs.Asking.{Asked, asked, asks, unless_broken}
 use Rattle.statement_meaning.specs.Ready.{IsReady}
-use Rattle.statement_laws.proofs.Adds.{whole-adds}
-use Rattle.statement_laws.proofs.Ready.{whole-ready}
-use Rattle.statement_laws.specs.Sounder.{AddsSoundly, KeepsSound}
+use Rattle.statement_meaning.proofs.Adds.{whole-adds}
+use Rattle.statement_meaning.proofs.Ready.{whole-ready}
+use Rattle.statement_meaning.specs.laws.Sounder.{AddsSoundly, KeepsSound}
 use Rattle.run_meaning.proofs.Stepping.{taken-sound}
 use Rattle.run_meaning.specs.Run.{Ran}
 use Rattle.run_meaning.specs.headline.Course.{Course}

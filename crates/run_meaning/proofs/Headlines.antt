@@ -20,7 +20,7 @@ use Rattle.sql_tree.specs.declared.statement.Script.{Script}
 use Rattle.sql_tree.specs.declared.statement.Statement.{Statement}
 use Rattle.sql_tree.specs.declared.statement.StatementBody.TheVariants as st
 use Rattle.stored_provenance.proofs.Soundness.{sound-empty}
-use Rattle.statement_laws.specs.Asks.{AsksToExplain, HasWord}
+use Rattle.statement_meaning.specs.laws.Asks.{AsksToExplain, HasWord}
 use Rattle.statement_meaning.specs.Answers.{Files, TakesTurn, can_be, file_limit}
 use Rattle.statement_meaning.specs.Asking.{asked}
 use Rattle.statement_meaning.specs.declared.refusal.StepRefusal.{StepRefusal}

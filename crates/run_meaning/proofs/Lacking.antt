@@ -21,7 +21,7 @@ use Rattle.name_meaning.proofs.Equations.{token, settree-core, settree-chain, se
 use Rattle.name_meaning.proofs.Opened.{Layer_set, core-is}
 use Rattle.name_meaning.specs.Cores.{BodyPart}
 use Rattle.name_meaning.specs.Trees.{set_of_tree}
-use Rattle.statement_laws.specs.Asks.{HasWord, in_core, in_first}
+use Rattle.statement_meaning.specs.laws.Asks.{HasWord, in_core, in_first}
 use Rattle.run_meaning.specs.headline.Words.{LacksWord}
 
 module _ (c : Contents) where

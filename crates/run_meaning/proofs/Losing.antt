@@ -31,10 +31,10 @@ use Rattle.sql_tree.specs.declared.query.QueryTree.{QueryTree}
 use Rattle.sql_tree.specs.declared.statement.Statement.{Statement}
 use Rattle.sql_tree.specs.declared.statement.StatementBody.{StatementBody}
 use Rattle.sql_tree.specs.declared.statement.StatementBody.TheVariants as st
-use Rattle.statement_laws.proofs.Lost.{before-good, each-good, lost-listed, one_lost_text}
-use Rattle.statement_laws.proofs.Ready.{names-whole}
-use Rattle.statement_laws.proofs.Wide.{rows-wide, tree-named}
-use Rattle.statement_laws.specs.Lost.{ListsLost}
+use Rattle.statement_meaning.proofs.Impacts.{before-good, each-good, lost-listed, one_lost_text}
+use Rattle.statement_meaning.proofs.Ready.{names-whole}
+use Rattle.statement_meaning.proofs.Wide.{rows-wide, tree-named}
+use Rattle.statement_meaning.specs.laws.Lost.{ListsLost}
 use Rattle.statement_meaning.specs.Answers.{TakesTurn}
 use Rattle.statement_meaning.specs.Asking.{asks}
 use Rattle.statement_meaning.specs.Turns.{Accepted, answer_text, answered, goes, identity_of, impact, on_good, reads, rows_before, rows_going, rows_lost}

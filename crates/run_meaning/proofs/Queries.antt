@@ -21,11 +21,11 @@ use Rattle.sql_tree.specs.Regular.{RegularStatement}
 use Rattle.sql_tree.specs.declared.query.QueryTree.{QueryTree}
 use Rattle.sql_tree.specs.declared.statement.Statement.{Statement}
 use Rattle.sql_tree.specs.declared.statement.StatementBody.TheVariants as st
-use Rattle.statement_laws.proofs.Answered.{asked-select, listed-text, one_text}
-use Rattle.statement_laws.proofs.Wide.{as-wide}
-use Rattle.statement_laws.proofs.Words.{opened}
-use Rattle.statement_laws.specs.Asks.{AsksFor}
-use Rattle.statement_laws.specs.Printed.{ListsBag}
+use Rattle.statement_meaning.proofs.Answered.{asked-select, listed-text, one_text}
+use Rattle.statement_meaning.proofs.Wide.{as-wide}
+use Rattle.statement_meaning.proofs.Words.{opened}
+use Rattle.statement_meaning.specs.laws.Asks.{AsksFor}
+use Rattle.statement_meaning.specs.laws.Printed.{ListsBag}
 use Rattle.statement_meaning.proofs.Asked.{asked-by_breaks}
 use Rattle.statement_meaning.specs.Answers.{TakesTurn}
 use Rattle.statement_meaning.specs.Asking.{Asked, Settled, asked}

@@ -23,9 +23,9 @@ use Rattle.name_meaning.specs.Statements.{breaks, name_breaks, named_query_break
 use Rattle.name_meaning.specs.Trees.{set_of_tree, set_step_of}
 use Rattle.name_meaning.specs.declared.answer.Resolved.TheVariants as r
 use Rattle.name_meaning.specs.declared.scope.Scope.{Scope}
-use Rattle.statement_laws.proofs.Ready.{names-whole, query-whole}
-use Rattle.statement_laws.proofs.Words.{no_word}
-use Rattle.statement_laws.specs.Asks.{HasWord, WithoutWord, plain_core, plain_first, with_body}
+use Rattle.statement_meaning.proofs.Ready.{names-whole, query-whole}
+use Rattle.statement_meaning.proofs.Words.{no_word}
+use Rattle.statement_meaning.specs.laws.Asks.{HasWord, WithoutWord, plain_core, plain_first, with_body}
 use Rattle.run_meaning.proofs.Lacking.{word-at}
 use Rattle.run_meaning.specs.headline.Sources.{IsOverProvenance, KeepsProvenance, in_from, subquery}
 

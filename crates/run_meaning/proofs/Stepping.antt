@@ -13,7 +13,7 @@ use Rattle.name_meaning.specs.declared.answer.Resolved.{Resolved}
 use Rattle.name_meaning.specs.declared.answer.Resolved.TheVariants as r
 use Rattle.statement_steps.specs.declared.ran.Ran.{Ran}
 use Rattle.statement_steps.specs.Running.{KeepsRun}
-use Rattle.statement_laws.specs.Sounder.{StandsSound, KeepsSound}
+use Rattle.statement_meaning.specs.laws.Sounder.{StandsSound, KeepsSound}
 use Rattle.statement_meaning.specs.Answers.{Files, TakesTurn, IsTurn, IsBacked, begins, can_be, has_failed, file_limit}
 use Rattle.statement_meaning.specs.Asking.{Asked, Settled, Begins, Explained, asked, asks, unless_broken}
 use Rattle.statement_meaning.specs.Ready.{IsReady}

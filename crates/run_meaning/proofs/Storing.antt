@@ -25,13 +25,13 @@ use Rattle.sql_tree.specs.declared.query.QueryTree.{QueryTree}
 use Rattle.sql_tree.specs.declared.statement.Statement.{Statement}
 use Rattle.sql_tree.specs.declared.statement.StatementBody.{StatementBody}
 use Rattle.sql_tree.specs.declared.statement.StatementBody.TheVariants as st
-use Rattle.statement_laws.proofs.Adds.{whole-adds}
-use Rattle.statement_laws.proofs.Ready.{named-whole, names-whole, query-whole, whole-ready}
-use Rattle.statement_laws.proofs.Words.{proved-seen, body_meant, whole_query}
-use Rattle.statement_laws.specs.Asks.{AsksFor, HasWord}
-use Rattle.statement_laws.specs.Freshened.{StoresFresh}
-use Rattle.statement_laws.specs.Leaving.{Leaves, TurnLeaves}
-use Rattle.statement_laws.specs.Sounder.{AddsSoundly}
+use Rattle.statement_meaning.proofs.Adds.{whole-adds}
+use Rattle.statement_meaning.proofs.Ready.{named-whole, names-whole, query-whole, whole-ready}
+use Rattle.statement_meaning.proofs.Words.{proved-seen, body_meant, whole_query}
+use Rattle.statement_meaning.specs.laws.Asks.{AsksFor, HasWord}
+use Rattle.statement_meaning.specs.laws.Freshened.{StoresFresh}
+use Rattle.statement_meaning.specs.laws.Leaving.{Leaves, TurnLeaves}
+use Rattle.statement_meaning.specs.laws.Sounder.{AddsSoundly}
 use Rattle.statement_meaning.specs.Answers.{TakesTurn}
 use Rattle.statement_meaning.specs.Asking.{asks}
 use Rattle.statement_meaning.specs.Ready.{IsReady}

@@ -19,9 +19,9 @@ use Rattle.name_meaning.specs.Queries.{columns_with_provenance, count_columns, p
 use Rattle.name_meaning.specs.Statements.{breaks, greatest_height, limit_breaks, most_operators, most_query_columns, name_breaks, query_limits, size_limit, width_limit}
 use Rattle.name_meaning.specs.declared.answer.Break.{Break}
 use Rattle.name_meaning.specs.declared.rule.Rule.TheVariants as rule
-use Rattle.statement_laws.proofs.Ready.{left-false, names-whole, right-false, unbroken}
-use Rattle.statement_laws.proofs.Words.{plain_seen, proved-seen, body_meant, whole_query, word-proves}
-use Rattle.statement_laws.specs.Asks.{AsksFor, HasWord, IsResolved, WithoutWord, with_body}
+use Rattle.statement_meaning.proofs.Ready.{left-false, names-whole, right-false, unbroken}
+use Rattle.statement_meaning.proofs.Words.{plain_seen, proved-seen, body_meant, whole_query, word-proves}
+use Rattle.statement_meaning.specs.laws.Asks.{AsksFor, HasWord, IsResolved, WithoutWord, with_body}
 use Rattle.run_meaning.specs.headline.Words.{asking}
 
 -- ---- fewer columns

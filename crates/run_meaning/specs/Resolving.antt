@@ -6,7 +6,7 @@ use Rattle.name_seen_parts.specs.Seen.{first_or}
 use Rattle.name_meaning.specs.Statements.{breaks, resolved}
 use Rattle.name_meaning.specs.declared.answer.Break.{Break}
 use Rattle.name_meaning.specs.declared.answer.Resolved.{Resolved}
-use Rattle.statement_laws.specs.Sounder.{KeepsSound}
+use Rattle.statement_meaning.specs.laws.Sounder.{KeepsSound}
 use Rattle.statement_meaning.specs.Asking.{asks}
 use Rattle.statement_meaning.specs.Ready.{IsReady}
 use Rattle.statement_meaning.specs.declared.refusal.StepRefusal.{StepRefusal}

@@ -9,7 +9,7 @@ ghost use Rattle.run_meaning.specs.headline.Headline.{Headline, HeadlineOver};
 
 use crate::{a_misspelling_has_one_break, bytes_are_one_script};
 use sql_parser::a_spelled_script_is_regular;
-use statement_laws::{a_stored_query_is_fresh, statements_keep_catalogs_sound};
+use statement_meaning::{a_stored_query_is_fresh, statements_keep_catalogs_sound};
 
 mod runs;
 mod words;

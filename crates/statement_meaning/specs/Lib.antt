@@ -3,3 +3,4 @@ pub mod Asking
 pub mod Carrying
 pub mod Ready
 pub mod Turns
+pub mod laws

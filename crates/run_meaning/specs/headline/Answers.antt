@@ -21,10 +21,10 @@ use Rattle.sql_tree.specs.declared.name.Name.{Name}
 use Rattle.sql_tree.specs.declared.query.QueryTree.{QueryTree}
 use Rattle.sql_tree.specs.declared.query.SetTree.{SetTree}
 use Rattle.sql_tree.specs.declared.statement.Statement.{Statement}
-use Rattle.statement_laws.specs.Asks.{AsksFor, HasWord, WithoutWord, shown_names, with_body}
-use Rattle.statement_laws.specs.Freshened.{StoresFresh}
-use Rattle.statement_laws.specs.Lost.{AsksImpact, ListsLost}
-use Rattle.statement_laws.specs.Printed.{ListsBag, ListsBeside}
+use Rattle.statement_meaning.specs.laws.Asks.{AsksFor, HasWord, WithoutWord, shown_names, with_body}
+use Rattle.statement_meaning.specs.laws.Freshened.{StoresFresh}
+use Rattle.statement_meaning.specs.laws.Lost.{AsksImpact, ListsLost}
+use Rattle.statement_meaning.specs.laws.Printed.{ListsBag, ListsBeside}
 use Rattle.statement_meaning.specs.Turns.{counting, goes, reads, remembered}
 use Rattle.run_meaning.specs.headline.Words.{LacksWord, asking}
 

@@ -5,7 +5,7 @@ use Rattle.bag_algebra.specs.declared.query.Answer.{Answer}
 use Rattle.perm_catalog.specs.Contents.{Contents}
 use Rattle.perm_io.specs.Found.{Found}
 use Rattle.sql_tree.specs.declared.statement.Statement.{Statement}
-use Rattle.statement_laws.specs.Asks.{AsksToExplain}
+use Rattle.statement_meaning.specs.laws.Asks.{AsksToExplain}
 use Rattle.statement_meaning.specs.Answers.{TakesTurn}
 use Rattle.statement_meaning.specs.Asking.{asked}
 use Rattle.statement_meaning.specs.declared.refusal.StepRefusal.{StepRefusal}

@@ -22,8 +22,8 @@ use Rattle.sql_tree.specs.declared.query.QueryTree.{QueryTree}
 use Rattle.sql_tree.specs.declared.statement.Script.{Script}
 use Rattle.sql_tree.specs.declared.statement.Statement.{Statement}
 use Rattle.sql_tree.specs.declared.statement.StatementBody.TheVariants as st
-use Rattle.statement_laws.specs.Asks.{AsksFor, AsksToExplain, HasWord}
-use Rattle.statement_laws.specs.Lost.{AsksImpact, MeetsLost}
+use Rattle.statement_meaning.specs.laws.Asks.{AsksFor, AsksToExplain, HasWord}
+use Rattle.statement_meaning.specs.laws.Lost.{AsksImpact, MeetsLost}
 use Rattle.statement_meaning.specs.Answers.{Files, TakesTurn, can_be}
 use Rattle.statement_meaning.specs.Asking.{asked, asks}
 use Rattle.statement_meaning.specs.Turns.{identity_of}

@@ -4,7 +4,7 @@ use Rattle.sql_tree.specs.declared.query.QueryTree.{QueryTree}
 use Rattle.sql_tree.specs.declared.query.SetTree.{SetTree}
 use Rattle.sql_tree.specs.declared.statement.Statement.{Statement}
 use Rattle.sql_tree.specs.declared.statement.StatementBody.TheVariants as st
-use Rattle.statement_laws.specs.Asks.{HasWord}
+use Rattle.statement_meaning.specs.laws.Asks.{HasWord}
 
 -- the word stands nowhere behind the first SELECT
 abbrev pub LacksWord : SetTree → Type 0

@@ -8,7 +8,7 @@ ghost use Rattle.statement_meaning.specs.Answers.{Files, can_be};
 ghost use Rattle.run_meaning.specs.Run.{Ran, RunsFrom};
 ghost use Rattle.run_meaning.specs.headline.Course.{Course};
 
-use statement_laws::statements_keep_catalogs_sound;
+use statement_meaning::statements_keep_catalogs_sound;
 
 /// A run of statements from some contents meets each of them over what those before it left: each text is that of the statement
 /// at its place, and behind the texts no statement is left, or the next one is refused.

@@ -16,7 +16,7 @@ ghost use Rattle.sql_tree.specs.declared.query.QueryTree.{QueryTree};
 ghost use Rattle.sql_tree.specs.declared.query.SetTree.{SetTree};
 ghost use Rattle.sql_tree.specs.declared.statement.Statement.{Statement};
 ghost use Rattle.sql_tree.specs.declared.statement.StatementBody.TheVariants as st;
-ghost use Rattle.statement_laws.specs.Asks.{AsksFor, HasWord, WithoutWord, with_body};
+ghost use Rattle.statement_meaning.specs.laws.Asks.{AsksFor, HasWord, WithoutWord, with_body};
 ghost use Rattle.statement_meaning.specs.Asking.{Settled, asked};
 ghost use Rattle.statement_meaning.specs.Turns.{Broken, Refused};
 ghost use Rattle.run_meaning.specs.headline.Sources.{IsOverProvenance, KeepsProvenance, subquery};

@@ -2,7 +2,7 @@ ghost use Rattle.std.specs.Prelude.{◌≡◌, IsTrue, false};
 ghost use Rattle.perm_catalog.specs.Sound.{IsSound};
 ghost use Rattle.perm_io.specs.Counts.{next_count};
 ghost use Rattle.statement_meaning.specs.Answers.{begins, over};
-ghost use Rattle.statement_laws.specs.Sounder.{KeepsSound};
+ghost use Rattle.statement_meaning.specs.laws.Sounder.{KeepsSound};
 ghost use Rattle.statement_meaning.specs.Asking.{asks};
 ghost use Rattle.statement_meaning.specs.Carrying.{IsCarriedOut};
 ghost use Rattle.statement_meaning.specs.Ready.{IsReady};

@@ -1,5 +1,0 @@
-use Rattle.statement_laws.proofs.Kept.{query-keeps}
-use Rattle.statement_laws.proofs.answers.laws.a_query_changes_nothing.Goals as goal
-
-pub returns : goal.returns
-returns c = query-keeps

@@ -1,8 +1,0 @@
-use Rattle.statement_laws.proofs.StoredThen.{fresh-shown, leaves-fresh}
-use Rattle.statement_laws.proofs.laws.a_stored_query_is_fresh.Goals as goal
-
-pub returns-clause-left : goal.returns-clause-left
-returns-clause-left c = leaves-fresh c.a_new_mark_is_sound.ensures
-
-pub returns-clause-shown : goal.returns-clause-shown
-returns-clause-shown c = fresh-shown

@@ -1,5 +1,0 @@
-use Rattle.statement_laws.proofs.Adds.{whole-adds}
-use Rattle.statement_laws.proofs.laws.whole_statements_add_soundly.Goals as goal
-
-pub returns : goal.returns
-returns c = whole-adds
