@@ -21,7 +21,7 @@ use Rattle.statement_meaning.specs.Turns.{Turn, Accepted, Refused, Cause, Broken
 use Rattle.statement_meaning.specs.Turns as cause
 use Rattle.statement_meaning.specs.declared.refusal.StepRefusal.{StepRefusal}
 use Rattle.statement_meaning.specs.declared.refusal.StepRefusal.TheVariants as refusal
-use Rattle.statement_changes.proofs.SomeFound.{some_found}
+use Rattle.statement_steps.proofs.SomeFound.{some_found}
 use Rattle.run_meaning.proofs.Turns.{some_run}
 use Rattle.run_meaning.specs.Run.{Ran, Runs, RunsNamed, RunsFile, RunsScript, RunsFrom, RunsWanted, Asks, GoesOn, GoesExplained, ended, after_text, after_files, with_more}
 use Rattle.run_meaning.specs.Scripts.{IsScriptOf, IsMisspelled}

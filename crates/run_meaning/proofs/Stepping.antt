@@ -5,7 +5,7 @@ use Rattle.perm_catalog.specs.Sound.{IsSound}
 use Rattle.perm_io.specs.Counts.{HasRisen, CountsFault, next_count}
 use Rattle.perm_io.specs.Found.{Found}
 use Rattle.sql_tree.specs.declared.statement.Statement.{Statement}
-use Rattle.statement_changes.proofs.SomeFound.{some_found}
+use Rattle.statement_steps.proofs.SomeFound.{some_found}
 use Rattle.name_seen_parts.specs.Seen.{first_or}
 use Rattle.name_meaning.specs.Statements.{breaks, resolved}
 use Rattle.name_meaning.specs.declared.answer.Break.{Break}

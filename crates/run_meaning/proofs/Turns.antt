@@ -5,7 +5,7 @@ use Rattle.perm_io.specs.Counts.{HasRisen, CountsFault, next_count}
 use Rattle.perm_io.specs.Found.{Found, CanBe}
 use Rattle.perm_io.specs.declared.named_file.NamedFile.{NamedFile}
 use Rattle.sql_tree.specs.declared.statement.Statement.{Statement}
-use Rattle.statement_changes.proofs.SomeFound.{some_found}
+use Rattle.statement_steps.proofs.SomeFound.{some_found}
 use Rattle.statement_meaning.specs.Answers.{Names, TakesTurn, begins, file_limit}
 use Rattle.statement_meaning.specs.Asking.{Asked, Settled, Begins, Explained, asked}
 use Rattle.statement_meaning.specs.Turns.{Turn, Accepted, Refused}

@@ -1,3 +1,4 @@
 mod Lost
 pub mod Selected
+pub mod SomeFound
 pub mod Unfiled

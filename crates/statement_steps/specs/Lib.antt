@@ -3,3 +3,4 @@ pub mod Printed
 pub mod Running
 pub mod Runs
 pub mod Settling
+pub mod changes

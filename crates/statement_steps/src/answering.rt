@@ -13,7 +13,7 @@ use explained_texts::plain_query;
 use perm_catalog::Catalog;
 use perm_values::{Bytes, Chars};
 use row_values::ExecError;
-use statement_changes::{NewTable, store_answer};
+use crate::changes::{NewTable, store_answer};
 use statement_meaning::StepRefusal;
 use std::alloc::Global;
 

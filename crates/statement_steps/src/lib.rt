@@ -2,6 +2,7 @@
 #![tactic(auto)]
 
 mod answering;
+mod changes;
 mod fresh;
 mod losing;
 mod order;

@@ -17,7 +17,7 @@ use name_meaning::Resolved;
 use perm_catalog::Catalog;
 use perm_io::Files;
 use perm_values::Bytes;
-use statement_changes::{
+use crate::changes::{
     NewTable, RowFile, copy, create_table, create_view, delete, drop_table, drop_view, insert,
 };
 use statement_meaning::StepRefusal;
