@@ -11,14 +11,13 @@ mod telling;
 
 use crate::telling::told;
 use perm_engine::{Status, perm};
-use perm_io::{DiskFiles, StdSink, write_all};
+use perm_io::{DiskFiles, StdSink, WatchedFiles, WatchedSink, write_all};
 use perm_values::{Chars, List, NoMemory};
 use std::alloc::Global;
 use std::io::ErrorKind;
 use std::process::ExitCode;
 use std::rt::Env;
 use std::{env, io};
-use watched_io::{WatchedFiles, WatchedSink};
 
 /// Why the words can't be handed on: one isn't UTF-8 or can't be asked for, or memory is wanting.
 #[derive(Clone, Copy, PartialEq, Eq)]

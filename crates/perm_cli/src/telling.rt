@@ -2,13 +2,12 @@
 //! fails, where memory is wanting, or where what is read then can't be what was run.
 use command_words::{Wanted, read_words};
 use perm_engine::Status;
-use perm_io::{Files, read_all};
+use perm_io::{Files, WatchedFiles, read_all};
 use perm_values::{Bytes, Chars};
 use refusal_notes::{Cause, cause_of, line_at, note};
 use run_meaning::SCRIPT_LIMIT;
 use std::alloc::Global;
 use std::{fs, rt};
-use watched_io::WatchedFiles;
 
 /// The note on a run that ended with this status and whose output ended with these bytes.
 pub(crate) fn told<R: rt::Files, F: Files + Drop>(

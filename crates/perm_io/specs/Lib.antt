@@ -8,3 +8,4 @@ pub mod NeverFiles
 pub mod NeverSink
 pub mod Shelves
 pub mod Told
+pub mod watched

@@ -15,6 +15,7 @@ mod reading;
 mod shelf;
 mod sink;
 mod std_sink;
+mod watched;
 mod writing;
 
 pub use disk_files::DiskFiles;
@@ -28,4 +29,5 @@ pub use never_sink::NeverSink;
 pub use reading::{ReadError, read_all};
 pub use sink::Sink;
 pub use std_sink::StdSink;
+pub use watched::{WatchedFiles, WatchedSink};
 pub use writing::{WriteFault, write_all};

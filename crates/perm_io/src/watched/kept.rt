@@ -1,7 +1,7 @@
 //! Bytes that are kept in place.
 ghost use Rattle.std.specs.Prelude.{◌≡◌, ◌≤◌, ◌+◌, ◌++◌, length, take};
-ghost use Rattle.watched_io.specs.Kept.{last_of};
-ghost use Rattle.watched_io.specs.declared.kept.TheConstants.{LAST, NAME};
+ghost use Rattle.perm_io.specs.watched.Kept.{last_of};
+ghost use Rattle.perm_io.specs.declared.watched.kept.TheConstants.{LAST, NAME};
 
 use arrayvec::ArrayVec;
 

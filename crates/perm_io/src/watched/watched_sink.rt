@@ -1,8 +1,8 @@
 ghost use Rattle.std.specs.Prelude.{◌≡◌, []};
 
-use crate::kept::{LAST, last_of};
+use crate::watched::kept::{LAST, last_of};
 use arrayvec::ArrayVec;
-use perm_io::{Failed, Sink};
+use crate::{Failed, Sink};
 
 /// An output that hands on to another one, and keeps the last 128 of the bytes that this took.
 #[derive(Drop)]
@@ -35,8 +35,8 @@ impl<K: Sink + Drop> Sink for WatchedSink<K> {
     ghost use Rattle.std.specs.Prelude.{◌≡◌, ◌<◌, ◌≤◌, ◌||◌, ◌++◌, nat_lt, false, length, take, IfOk, OnOk, OnErr, is_err};
     ghost use Rattle.std.specs.Io.KnownBytes.{append_known};
     ghost use Rattle.perm_io.specs.Counts.{CountsFault};
-    ghost use Rattle.watched_io.specs.Kept.{last_of};
-    ghost use Rattle.watched_io.specs.declared.kept.TheConstants.{LAST};
+    ghost use Rattle.perm_io.specs.watched.Kept.{last_of};
+    ghost use Rattle.perm_io.specs.declared.watched.kept.TheConstants.{LAST};
 
     ghost told = { λ s. K.told s.out };
 

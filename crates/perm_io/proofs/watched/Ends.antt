@@ -3,7 +3,7 @@ use Rattle.std.proofs.Common.{◌≡◌, ◌∙◌, ◌⊎◌, inl, inr, ℕ, �
 use Rattle.std.proofs.lemmas.Bool.{cases_lt}
 use Rattle.std.proofs.lemmas.List.{drop-append-le}
 use Rattle.std.proofs.Math.Seq.{drop-append-add, drop-length}
-use Rattle.watched_io.specs.Kept.{last_of}
+use Rattle.perm_io.specs.watched.Kept.{last_of}
 
 -- where the others alone are more than is kept
 others : (count : ℕ) (kept more : List ℕ) → count < length more →

@@ -1,9 +1,9 @@
 ghost use Rattle.std.specs.Prelude.{◌≡◌, [], false, cond};
 ghost use Rattle.perm_io.specs.Counts.{raised};
 
-use crate::kept::{NAME, front_of};
+use crate::watched::kept::{NAME, front_of};
 use arrayvec::ArrayVec;
-use perm_io::{BeginError, Failed, Files};
+use crate::{BeginError, Failed, Files};
 use perm_values::Chars;
 use std::alloc::Global;
 
@@ -58,7 +58,7 @@ impl<F: Files + Drop> Files for WatchedFiles<F> {
     ghost use Rattle.perm_io.specs.Answers.{is_absent, is_found, has_failed};
     ghost use Rattle.perm_io.specs.Counts.{next_count, raised, CountsFault};
     ghost use Rattle.perm_io.specs.Named.{file_named};
-    ghost use Rattle.watched_io.specs.declared.kept.TheConstants.{NAME};
+    ghost use Rattle.perm_io.specs.declared.watched.kept.TheConstants.{NAME};
 
     ghost told = { λ f. F.told f.files };
 

@@ -1,8 +1,8 @@
 use Rattle.std.proofs.Common.{◌∙◌, ◌++◌, ◌-◌, ap, length}
-use Rattle.watched_io.proofs.Ends.{last_of-append}
-use Rattle.watched_io.specs.Kept.{last_of}
-use Rattle.watched_io.specs.declared.kept.TheConstants.{LAST}
-use Rattle.watched_io.proofs.kept.last_of.Goals as goal
+use Rattle.perm_io.proofs.watched.Ends.{last_of-append}
+use Rattle.perm_io.specs.watched.Kept.{last_of}
+use Rattle.perm_io.specs.declared.watched.kept.TheConstants.{LAST}
+use Rattle.perm_io.proofs.watched.kept.last_of.Goals as goal
 
 pub returns : goal.returns
 returns c =
