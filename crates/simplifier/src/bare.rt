@@ -4,8 +4,8 @@ ghost use Rattle.bag_algebra.specs.FaultFree.{items_faultless};
 ghost use Rattle.simplifier.specs.Bare.{AllBared, IsBared, IsUnread, StandsUnread};
 
 use bag_algebra::{Item, Query, SubKind, Sublink, faultless};
-use simpler_laws::input_of;
 use perm_values::List;
+use simpler_laws::input_of;
 use std::mem::replace;
 
 /// The sublinks, each EXISTS over what is below the projections that can't fault. It takes no memory.

@@ -9,8 +9,11 @@ ghost use Rattle.simplifier.specs.Bare.{SubsStandBared};
 use crate::bare::bared;
 use bag_algebra::{Query, Sublink};
 use folded_literals::{add_folded, aggregate_folded, filter_folded, join_folded, project_folded};
-use simpler_laws::{apply_standing, distinct_once, except_standing, intersect_standing, limit_standing, table, union_standing};
 use perm_values::{List, NoMemory};
+use simpler_laws::{
+    apply_standing, distinct_once, except_standing, intersect_standing, limit_standing, table,
+    union_standing,
+};
 use std::alloc::Global;
 
 /// The query over folded expressions, without its sources, filters on TRUE, DISTINCTs over what has no row twice, and

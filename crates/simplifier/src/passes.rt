@@ -11,11 +11,15 @@ ghost use Rattle.simpler_laws.specs.Tested.{tested};
 ghost use Rattle.folded_literals.specs.Simple.{is_simple};
 
 use crate::folding::folded_query;
+use crate::projections::whole_dropped;
 use crate::raising::{above, filter_node, join_node, pairs_where, rows_where};
 use bag_algebra::{Expr, JoinKind, Query, Sublink, faultless};
-use simpler_laws::{add_standing, aggregate_standing, all_fault_free, apply_standing, distinct_once, except_standing, filter_parts, intersect_standing, join_sides, limit_standing, lowered, project_merged, table, union_standing, with_conjuncts};
 use perm_values::{List, NoMemory};
-use crate::projections::whole_dropped;
+use simpler_laws::{
+    add_standing, aggregate_standing, all_fault_free, apply_standing, distinct_once,
+    except_standing, filter_parts, intersect_standing, join_sides, limit_standing, lowered,
+    project_merged, table, union_standing, with_conjuncts,
+};
 use std::alloc::Global;
 
 /// A plain query that stands for the query, with joins on the tests that filters above them make of pairs of rows, and with

@@ -10,10 +10,10 @@ ghost use Rattle.query_laws.specs.Standing.{SubsStand};
 ghost use Rattle.simpler_laws.specs.Tested.{tested};
 
 use crate::forced::forced;
-use bag_algebra::{Expr, JoinKind, Query, Sublink};
-use simpler_laws::{filter_on, filter_standing, inner_pairs, join_standing, tested};
-use perm_values::{List, NoMemory};
 use crate::projections::{filter_raised, join_raised};
+use bag_algebra::{Expr, JoinKind, Query, Sublink};
+use perm_values::{List, NoMemory};
+use simpler_laws::{filter_on, filter_standing, inner_pairs, join_standing, tested};
 use std::alloc::Global;
 
 /// The rows of a query of which all tests are true, over what stands for the query. It fails where that failed, and for want of

@@ -6,6 +6,7 @@ ghost use Rattle.statement_meaning.specs.Turns.{create_table_as, select, store_a
 ghost use Rattle.statement_steps.specs.Printed.{IsPrinted};
 ghost use Rattle.statement_steps.specs.Runs.{IsAnswered, IsRun, Runs};
 
+use crate::changes::{NewTable, store_answer};
 use crate::runner::Runner;
 use bag_algebra::Answer;
 use csv_tables::answer_text;
@@ -13,7 +14,6 @@ use explained_texts::plain_query;
 use perm_catalog::Catalog;
 use perm_values::{Bytes, Chars};
 use row_values::ExecError;
-use crate::changes::{NewTable, store_answer};
 use statement_meaning::StepRefusal;
 use std::alloc::Global;
 

@@ -9,6 +9,9 @@ ghost use Rattle.statement_steps.specs.Running.{KeepsRun};
 ghost use Rattle.statement_steps.specs.Settling.{IsSettled};
 
 use crate::answering::{create_table_as, select};
+use crate::changes::{
+    NewTable, RowFile, copy, create_table, create_view, delete, drop_table, drop_view, insert,
+};
 use crate::fresh::show_fresh;
 use crate::losing::impact;
 use crate::runner::Runner;
@@ -17,9 +20,6 @@ use name_meaning::Resolved;
 use perm_catalog::Catalog;
 use perm_io::Files;
 use perm_values::Bytes;
-use crate::changes::{
-    NewTable, RowFile, copy, create_table, create_view, delete, drop_table, drop_view, insert,
-};
 use statement_meaning::StepRefusal;
 use std::alloc::Global;
 

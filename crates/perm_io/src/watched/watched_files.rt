@@ -2,8 +2,8 @@ ghost use Rattle.std.specs.Prelude.{◌≡◌, [], false, cond};
 ghost use Rattle.perm_io.specs.Counts.{raised};
 
 use crate::watched::kept::{NAME, front_of};
-use arrayvec::ArrayVec;
 use crate::{BeginError, Failed, Files};
+use arrayvec::ArrayVec;
 use perm_values::Chars;
 use std::alloc::Global;
 

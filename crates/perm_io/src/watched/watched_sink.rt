@@ -1,8 +1,8 @@
 ghost use Rattle.std.specs.Prelude.{◌≡◌, []};
 
 use crate::watched::kept::{LAST, last_of};
-use arrayvec::ArrayVec;
 use crate::{Failed, Sink};
+use arrayvec::ArrayVec;
 
 /// An output that hands on to another one, and keeps the last 128 of the bytes that this took.
 #[derive(Drop)]

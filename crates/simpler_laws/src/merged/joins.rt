@@ -7,9 +7,9 @@ ghost use Rattle.bag_algebra.specs.declared.query.Query.TheVariants.{Join, Singl
 ghost use Rattle.bag_algebra.specs.declared.query.Query.{Query};
 ghost use Rattle.contribution.specs.Conjunctions.{all_hold};
 
+use crate::nodes::inner_join;
 use bag_algebra::{Expr, Query};
 use perm_values::{NoMemory, both};
-use crate::nodes::inner_join;
 use std::alloc::Global;
 
 /// The pairs of rows of two queries of which all tests are true, over what stands for the queries; where there is no test and

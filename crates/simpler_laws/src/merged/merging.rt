@@ -8,10 +8,10 @@ ghost use Rattle.bag_algebra.specs.declared.query.Sublink.{Sublink};
 ghost use Rattle.query_laws.specs.Standing.{SubsStand};
 ghost use Rattle.simpler_laws.specs.merged.Substituted.{ItemsSubstituted, IsMerged};
 
+use crate::lowering::own_place;
 use crate::merged::substituting::substituted;
 use bag_algebra::{Expr, Item, Query, Sublink, faultless};
 use perm_values::{Copyable, List, NoMemory, three};
-use crate::lowering::own_place;
 use std::alloc::Global;
 
 /// What stands for a Project over what stands for its input and its sublinks; one with the items below it, where these can't

@@ -6,9 +6,9 @@ ghost use Rattle.bag_algebra.specs.declared.query.Query.{Query};
 ghost use Rattle.simplifier.specs.projections.Sides.{IsBelow, IsSide};
 
 use bag_algebra::{Item, Query};
-use simpler_laws::{input_of, own_places};
 use perm_values::{List, NoMemory};
 use rewrite_base::exact_width;
+use simpler_laws::{input_of, own_places};
 use std::alloc::Global;
 
 /// A query as columns of another: whether that one is its input, and not itself; where they stand there, and how many it has.

@@ -8,9 +8,9 @@ ghost use Rattle.simpler_laws.specs.Lowered.{AreColumns};
 ghost use Rattle.simplifier.specs.projections.Sides.{IsWhole};
 
 use bag_algebra::{Item, Query};
-use simpler_laws::{input_of, own_place};
 use perm_values::NoMemory;
 use rewrite_base::exact_width;
+use simpler_laws::{input_of, own_place};
 
 /// What stands for whatever the query stands for. A projection without sublinks to all columns of its input, in their order,
 /// is the input. It fails where the query failed, and takes no memory.
