@@ -8,7 +8,7 @@ ghost use Rattle.rewrite_move.specs.Moved.{SubsTraced};
 
 use bag_algebra::{Expr, JoinKind, Query, Sublink};
 use perm_values::{List, NoMemory};
-use rewrite_joins::{Crossed, every_pair, over_pairs};
+use rewrite_sublink::{Crossed, every_pair, over_pairs};
 use rewrite_move::filter_moved;
 use std::alloc::Global;
 

@@ -21,7 +21,7 @@ use Rattle.bag_algebra.specs.declared.query.Query.TheVariants.{Filter, Join, Tab
 use Rattle.bag_algebra.specs.declared.query.SubKind.TheVariants.{Any, Exists}
 use Rattle.bag_algebra.specs.declared.query.Sublink.{Sublink}
 use Rattle.contribution.specs.Conjunctions.{always}
-use Rattle.rewrite_joins.specs.ByParts.{by_parts}
+use Rattle.rewrite_sublink.specs.joins.ByParts.{by_parts}
 use Rattle.rewrite_sublink.specs.Candidates.{all_contributed}
 use Rattle.worked_examples.specs.Queries.{none, num, x, y, holding, col, compared, and_also, r, s, printed}
 

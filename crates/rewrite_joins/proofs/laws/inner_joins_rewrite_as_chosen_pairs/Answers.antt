@@ -1,5 +1,0 @@
-use Rattle.rewrite_joins.proofs.ChosenPairs.{rewrite-met}
-use Rattle.rewrite_joins.proofs.laws.inner_joins_rewrite_as_chosen_pairs.Goals as goal
-
-pub returns : goal.returns
-returns c = λ left right condition subs p given. rewrite-met left right condition subs p given

@@ -1,4 +1,0 @@
-use Rattle.rewrite_joins.proofs.sublinks.every_pair.Goals as goal
-
-pub returns-clause-none_open : goal.returns-clause-none_open
-returns-clause-none_open c = c.in-Ok.ensures.none_open
