@@ -1,9 +1,16 @@
+pub mod Answering
 pub mod Equality
+pub mod Filters
 pub mod Flags
 pub mod Foremost
 pub mod FreeConditions
+pub mod Given
+pub mod JoinedRows
 pub mod Joining
 pub mod Kept
 pub mod Leading
+pub mod Queries
+pub mod Screening
 pub mod Seeing
 pub mod Spending
+pub mod Sublinks

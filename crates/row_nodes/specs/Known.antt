@@ -20,7 +20,7 @@ use Rattle.bag_algebra.specs.declared.query.Sublink.{Sublink}
 use Rattle.read_columns.specs.Columns.{AreNearest, columns_of}
 use Rattle.row_values.specs.Answers.{Refuses}
 use Rattle.row_values.specs.declared.error.ExecError.{ExecError}
-use Rattle.row_memory.specs.Memory.{Remembered, found, found_under, remembered}
+use Rattle.row_nodes.specs.memory.Memory.{Remembered, found, found_under, remembered}
 use Rattle.row_joins.specs.Cells.{AreCells}
 use Rattle.row_joins.specs.Equated.{is_equality}
 use Rattle.row_nodes.specs.Keeping.{Keeps, KeptOf, input_columns, input_depth, is_kept, keeps_input, keyed_at}

@@ -6,3 +6,5 @@ pub mod Keyed
 pub mod Known
 pub mod Marks
 pub mod Runs
+pub mod memory
+pub mod results

@@ -8,7 +8,7 @@ ghost use Rattle.bag_algebra.specs.Meaning.{Database};
 ghost use Rattle.bag_algebra.specs.Means.{sub_value};
 ghost use Rattle.bag_algebra.specs.Outcome.{Good};
 ghost use Rattle.bag_algebra.specs.declared.query.Query.{Query as SeenQuery};
-ghost use Rattle.row_memory.specs.Memory.{found};
+ghost use Rattle.row_nodes.specs.memory.Memory.{found};
 ghost use Rattle.row_joins.specs.Cells.{AreCells};
 ghost use Rattle.row_joins.specs.Hashed.{on_pair, met_rows};
 ghost use Rattle.row_nodes.specs.Keeping.{input_depth};
@@ -23,7 +23,7 @@ use null_logic::{Compare, Truth};
 use perm_values::{List, NoMemory, Row, Rows, Value};
 use read_columns::nearest_places;
 use row_joins::{Cells, ColumnPair, key_table, keyed_columns, rows_around};
-use row_memory::Memory;
+use crate::memory::Memory;
 use std::alloc::Global;
 
 /// What answers for a query.

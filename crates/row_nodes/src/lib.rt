@@ -11,6 +11,8 @@ mod keeping;
 mod known;
 mod limit;
 mod marks;
+mod memory;
+mod results;
 mod set_operation;
 
 pub use groups::in_groups;
@@ -20,4 +22,5 @@ pub use join::{hashed_pairs, meets_by_keys, more_met, tries_by_keys};
 pub use keeping::Keeping;
 pub use known::{Answer, Keyed, Known, cells_value, known_subs, same_rows, tests_equality};
 pub use limit::limited;
+pub use results::{Screened, distinct_rows, except_rows, group_rows, intersect_rows, kept_rows, limit_rows, union_rows, whole_rows};
 pub use set_operation::{distinct, excepted, intersected, united};

@@ -1,6 +1,6 @@
 use Rattle.std.proofs.Common.{◌≡◌, refl, sym, subst}
 use Rattle.perm_values.specs.Rows.{picked}
-use Rattle.row_memory.specs.Memory.{Remembered}
+use Rattle.row_nodes.specs.memory.Memory.{Remembered}
 use Rattle.row_nodes.specs.declared.known.Answer.{Answer}
 use Rattle.row_nodes.proofs.Kept.{knows_stepped}
 use Rattle.row_nodes.proofs.known.Known.asks.Goals as goal

@@ -1,6 +1,6 @@
 use Rattle.std.proofs.Common.{List, ℕ, [], refl, ap, ◌∙◌}
 use Rattle.std.specs.List.{range_with_len}
-use Rattle.row_memory.specs.Memory.{Remembered, remembered}
+use Rattle.row_nodes.specs.memory.Memory.{Remembered, remembered}
 use Rattle.row_nodes.specs.declared.known.Answer.{Answer}
 use Rattle.row_nodes.specs.declared.known.Answer.TheVariants.{Nothing}
 use Rattle.row_nodes.specs.declared.known.Keyed.{Keyed}

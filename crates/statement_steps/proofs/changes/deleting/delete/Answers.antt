@@ -1,6 +1,6 @@
 use Rattle.std.proofs.Common.{length, ap, ◌∙◌}
 use Rattle.statement_meaning.specs.Turns.{goes}
-use Rattle.row_results.proofs.Sublinks.{each_long}
+use Rattle.row_nodes.proofs.Sublinks.{each_long}
 use Rattle.statement_steps.proofs.changes.deleting.delete.Goals as goal
 
 pub remove-requires-clause-flags : goal.remove-requires-clause-flags

@@ -1,6 +1,0 @@
-use Rattle.std.proofs.Common.{◌∙◌}
-use Rattle.row_results.proofs.Screening.{flagged_count}
-use Rattle.row_results.proofs.screened.Screened.len.Goals as goal
-
-pub returns-in-Some : goal.returns-in-Some
-returns-in-Some c = λ has. (rw c.as_slice.ensures at c.unset.ensures) ∙ flagged_count c.args.self.now c.in-Some.flags c.in-Some.is has
