@@ -16,9 +16,9 @@
 //! | or the text of the query itself | `print`, below `explain` | `Explains` |
 //! | why the run ends | `finish`, `refuse`, `stop` | `Ends` |
 ghost use Rattle.std.specs.Prelude.{◌≡◌, ◌⊎◌, true, false};
-ghost use Rattle.command_words.specs.Requests.{request_of};
-ghost use Rattle.command_words.specs.declared.wanted.Wanted.TheVariants.{Misworded};
-ghost use Rattle.generated_scripts.specs.Generated.{generated};
+ghost use Rattle.run_meaning.specs.words.Requests.{request_of};
+ghost use Rattle.run_meaning.specs.declared.words.wanted.Wanted.TheVariants.{Misworded};
+ghost use Rattle.run_meaning.specs.generated.Generated.{generated};
 ghost use Rattle.run_meaning.specs.headline.Headline.{IsTold};
 ghost use Rattle.perm_catalog.specs.Changes.{nothing_held};
 ghost use Rattle.perm_io.specs.Counts.{HasRisen};
@@ -30,13 +30,12 @@ ghost use Rattle.run_meaning.specs.Ends.{Completes, EndsOne, EndsSome, over};
 ghost use Rattle.run_meaning.specs.Run.{Runs, RunsFrom, RunsNamed, RunsScript, script_files, IsWhole, IsSteady, IsOfScript};
 
 use crate::session::Session;
-use command_words::{Wanted, read_words};
-use generated_scripts::generated;
 use name_statements::let_statements_go;
 use perm_io::{Files, ReadError, Sink, read_all, write_all};
 use perm_values::{Chars, List, NoMemory};
 use run_meaning::{
-    SCRIPT_LIMIT, Status, every_run_is_told_by_the_headline, finish, refuse, script_of, stop,
+    SCRIPT_LIMIT, Status, Wanted, every_run_is_told_by_the_headline, finish, generated, read_words,
+    refuse, script_of, stop,
 };
 use sql_parser::a_spelled_script_is_regular;
 use sql_tree::Statement;

@@ -22,7 +22,10 @@ use perm_io::Files;
 use perm_values::Bytes;
 use run_meaning::carried_out;
 use sql_tree::Statement;
-use statement_meaning::{StepRefusal, statements_keep_catalogs_sound, whole_statements_add_soundly, whole_statements_are_ready};
+use statement_meaning::{
+    StepRefusal, statements_keep_catalogs_sound, whole_statements_add_soundly,
+    whole_statements_are_ready,
+};
 use statement_steps::Runner;
 use std::alloc::Global;
 use std::marker::Model;

@@ -8,8 +8,8 @@ ghost use Rattle.rewrite_move.specs.Moved.{SubsTraced};
 
 use bag_algebra::{Expr, JoinKind, Query, Sublink};
 use perm_values::{List, NoMemory};
-use rewrite_sublink::{Crossed, every_pair, over_pairs};
 use rewrite_move::filter_moved;
+use rewrite_sublink::{Crossed, every_pair, over_pairs};
 use std::alloc::Global;
 
 /// A rewriting of a Join with sublinks: the pairs that meet its condition are a Filter over all pairs, and the rows without a

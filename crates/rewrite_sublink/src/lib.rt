@@ -9,6 +9,9 @@ mod laws;
 mod matching;
 mod rules;
 
-pub use joins::{Crossed, every_pair, inner_joins_rewrite_as_chosen_pairs, join_with, outer_joins_rewrite_by_parts, over_pairs};
+pub use joins::{
+    Crossed, every_pair, inner_joins_rewrite_as_chosen_pairs, join_with,
+    outer_joins_rewrite_by_parts, over_pairs,
+};
 pub use laws::{filters_over_candidates_rewrite, projects_over_candidates_rewrite};
 pub use rules::{answer_columns, beside_row, filter_with, own_items, own_rows, project_with};

@@ -17,13 +17,13 @@ ghost use Rattle.row_nodes.specs.Known.{AllKnown, AllNew, AreInputOf, FindsInput
 
 use crate::input::Input;
 use crate::keeping::{Keeping, kept_of};
+use crate::memory::Memory;
 use bag_algebra::{Env, Expr, Query, SubKind, Sublink};
 use indexmap::IndexMap;
 use null_logic::{Compare, Truth};
 use perm_values::{List, NoMemory, Row, Rows, Value};
 use read_columns::nearest_places;
 use row_joins::{Cells, ColumnPair, key_table, keyed_columns, rows_around};
-use crate::memory::Memory;
 use std::alloc::Global;
 
 /// What answers for a query.

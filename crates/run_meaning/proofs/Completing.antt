@@ -1,9 +1,9 @@
 -- Where nothing failed, what stands in the output is the whole of a run in which no file failed, unless memory was wanting.
 use Rattle.std.proofs.Common.{◌≡◌, ◌∙◌, ℕ, false, List, length, Option, refl, ap, inl, inr, subst, sym}
-use Rattle.command_words.specs.Requests.{request_of}
-use Rattle.command_words.specs.declared.wanted.Wanted.{Wanted}
-use Rattle.command_words.specs.declared.wanted.Wanted.TheVariants.{Script as Named, Generated, Misworded}
-use Rattle.generated_scripts.specs.Generated.{generated}
+use Rattle.run_meaning.specs.words.Requests.{request_of}
+use Rattle.run_meaning.specs.declared.words.wanted.Wanted.{Wanted}
+use Rattle.run_meaning.specs.declared.words.wanted.Wanted.TheVariants.{Script as Named, Generated, Misworded}
+use Rattle.run_meaning.specs.generated.Generated.{generated}
 use Rattle.perm_io.specs.Counts.{HasRisen}
 use Rattle.perm_io.specs.Found.{Found, CanBe}
 use Rattle.perm_io.specs.declared.named_file.NamedFile.{NamedFile}

@@ -29,10 +29,10 @@ use Rattle.run_meaning.proofs.Reasons.{caused}
 use Rattle.run_meaning.proofs.Turns.{after_none}
 use Rattle.run_meaning.proofs.Widening.{script-counted}
 use Rattle.run_meaning.specs.Ends.{EndsOne, RunsOver, Written}
-use Rattle.command_words.specs.Requests.{request_of}
-use Rattle.command_words.specs.declared.wanted.Wanted.{Wanted}
-use Rattle.command_words.specs.declared.wanted.Wanted.TheVariants.{Script as Named, Generated, Misworded}
-use Rattle.generated_scripts.specs.Generated.{generated}
+use Rattle.run_meaning.specs.words.Requests.{request_of}
+use Rattle.run_meaning.specs.declared.words.wanted.Wanted.{Wanted}
+use Rattle.run_meaning.specs.declared.words.wanted.Wanted.TheVariants.{Script as Named, Generated, Misworded}
+use Rattle.run_meaning.specs.generated.Generated.{generated}
 use Rattle.run_meaning.specs.Run.{Ran, IsRefusedWhole, Runs, RunsFile, RunsFrom, RunsNamed, RunsScript, RunsWanted, after_files, ended}
 use Rattle.run_meaning.specs.Scripts.{IsScriptOf, IsMisspelled}
 use Rattle.run_meaning.specs.Stops.{Stop, ToTheEnd, Misused, NoFile, LongFile, FailedFile, NoScript, At, IsFirst, script_limit}

@@ -1,8 +1,8 @@
 -- Which run a command line and its script's file stand for.
 use Rattle.std.proofs.Common.{◌≡◌, ◌∙◌, ◌⊎◌, ℕ, List, Option, Err, refl, sym, ap, inl, inr, subst, arith}
-use Rattle.command_words.specs.Requests.{request_of}
-use Rattle.command_words.specs.declared.wanted.Wanted.{Wanted}
-use Rattle.command_words.specs.declared.wanted.Wanted.TheVariants.{Misworded}
+use Rattle.run_meaning.specs.words.Requests.{request_of}
+use Rattle.run_meaning.specs.declared.words.wanted.Wanted.{Wanted}
+use Rattle.run_meaning.specs.declared.words.wanted.Wanted.TheVariants.{Misworded}
 use Rattle.perm_io.specs.Counts.{HasRisen, next_count}
 use Rattle.perm_io.specs.Found.{Found, Read, CanBe}
 use Rattle.perm_io.specs.declared.named_file.NamedFile.{NamedFile}

@@ -1,9 +1,9 @@
 -- Over told files of which none fails there is one run, but for which fault is named, which texts explain, and one that breaks off.
 use Rattle.std.proofs.Common.{◌≡◌, ◌≢◌, ◌∙◌, ℕ, ◌+◌, ◌≤◌, ◌<◌, true, List, [], ◌∷◌, length, Option, Some, None, IsSomeAnd, refl, sym, ap, subst, inl, inr, arith}
-use Rattle.command_words.specs.Requests.{request_of}
-use Rattle.command_words.specs.declared.wanted.Wanted.{Wanted}
-use Rattle.command_words.specs.declared.wanted.Wanted.TheVariants.{Script as OfFile, Generated, Misworded}
-use Rattle.generated_scripts.specs.Generated.{generated}
+use Rattle.run_meaning.specs.words.Requests.{request_of}
+use Rattle.run_meaning.specs.declared.words.wanted.Wanted.{Wanted}
+use Rattle.run_meaning.specs.declared.words.wanted.Wanted.TheVariants.{Script as OfFile, Generated, Misworded}
+use Rattle.run_meaning.specs.generated.Generated.{generated}
 use Rattle.null_logic.specs.declared.run_fault.RunFault.{RunFault}
 use Rattle.bag_algebra.specs.Outcome.{Faults, has}
 use Rattle.bag_algebra.specs.declared.query.Answer.{Answer}

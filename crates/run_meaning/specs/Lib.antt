@@ -6,3 +6,5 @@ pub mod Scripts
 pub mod Statuses
 pub mod Stops
 pub mod headline
+pub mod words
+pub mod generated

@@ -3,10 +3,10 @@ use Rattle.std.specs.Prelude.{◌≡◌, ◌≢◌, ◌⊎◌, ℕ, ◌+◌, Lis
 use Rattle.std.specs.List.{flat_map, sum}
 use Rattle.answer_texts.specs.Explains.{Explains}
 use Rattle.bag_algebra.specs.declared.query.Answer.{Answer}
-use Rattle.command_words.specs.Requests.{request_of}
-use Rattle.command_words.specs.declared.wanted.Wanted.{Wanted}
-use Rattle.command_words.specs.declared.wanted.Wanted.TheVariants.{Script as Named, Generated, Misworded}
-use Rattle.generated_scripts.specs.Generated.{generated}
+use Rattle.run_meaning.specs.words.Requests.{request_of}
+use Rattle.run_meaning.specs.declared.words.wanted.Wanted.{Wanted}
+use Rattle.run_meaning.specs.declared.words.wanted.Wanted.TheVariants.{Script as Named, Generated, Misworded}
+use Rattle.run_meaning.specs.generated.Generated.{generated}
 use Rattle.perm_catalog.specs.Changes.{nothing_held}
 use Rattle.perm_catalog.specs.Contents.{Contents}
 use Rattle.perm_io.specs.Found.{Found, Read, Missing, TooLong, Failed, CanBe}

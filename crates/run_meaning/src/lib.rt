@@ -2,6 +2,7 @@
 //! steps of a run, and laws of runs.
 #![tactic(auto)]
 
+mod generated;
 mod headline;
 mod laws;
 mod sameness;
@@ -9,7 +10,9 @@ mod script;
 mod status;
 mod steps;
 mod stopping;
+mod words;
 
+pub use generated::{a_generated_text_is_a_script, generated};
 pub use headline::{
     a_query_has_the_word_or_not, a_query_is_refused_or_asks, a_run_is_the_course_of_its_statements,
     every_run_is_told_by_the_headline, the_contents_of_a_run_are_sound,
@@ -22,3 +25,7 @@ pub use script::{SCRIPT_LIMIT, script_of};
 pub use status::Status;
 pub use steps::{a_run_has_numbers_left, carried_out};
 pub use stopping::{finish, refuse, stop};
+pub use words::{
+    Wanted, a_number_lies_in_its_range, a_word_without_a_dash_is_a_script, other_words_are_refused,
+    read_words,
+};

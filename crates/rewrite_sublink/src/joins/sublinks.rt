@@ -12,11 +12,11 @@ ghost use Rattle.rewrite_base.specs.OpenSublinks.{NoOpenSublink};
 ghost use Rattle.rewrite_sublink.specs.SubRewritings.{SubsRewritten};
 
 use crate::joins::parts::join_by_parts;
+use crate::rules::filter_with;
 use bag_algebra::{Expr, JoinKind, Query, Sublink};
 use contribution::always;
 use perm_values::{Copyable, List, NoMemory, both};
 use rewrite_core::join;
-use crate::rules::filter_with;
 use std::alloc::Global;
 
 /// A rewriting of a join of any kind, where sublinks of any kind stand in its condition: the pairs of all rows of both sides

@@ -10,9 +10,9 @@ ghost use Rattle.row_values.specs.Columns.{functions_of};
 ghost use Rattle.row_nodes.specs.results.Screened.{GivesLeft, HasFlags};
 
 use crate::results::screened::Screened;
+use crate::{Input, distinct, excepted, in_groups, intersected, limited, made, united};
 use bag_algebra::{Aggr, Env};
 use perm_values::Key;
-use crate::{Input, distinct, excepted, in_groups, intersected, limited, made, united};
 use row_values::ExecError;
 use std::alloc::Global;
 

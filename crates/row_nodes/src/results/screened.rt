@@ -3,8 +3,8 @@ ghost use Rattle.std.specs.Prelude.{◌≡◌, None, Some, IfOk, filter, get_or,
 ghost use Rattle.std.specs.Option.{option_copied};
 ghost use Rattle.row_nodes.specs.results.Screened.{HasFlags, is_out, row_left, rows_left};
 
-use perm_values::{List, NoMemory, Row};
 use crate::input::Input;
+use perm_values::{List, NoMemory, Row};
 use std::alloc::Global;
 
 /// Rows, and which of them are left out.

@@ -29,9 +29,9 @@ use Rattle.statement_meaning.specs.Asking.{asked, asks}
 use Rattle.statement_meaning.specs.Turns.{identity_of}
 use Rattle.statement_meaning.specs.declared.refusal.StepRefusal.{StepRefusal}
 use Rattle.statement_meaning.specs.declared.refusal.StepRefusal.TheVariants as refusal
-use Rattle.command_words.specs.Requests.{request_of}
-use Rattle.command_words.specs.declared.wanted.Wanted.TheVariants.{Script as Named, Generated, Misworded}
-use Rattle.generated_scripts.specs.Generated.{generated as generated_text}
+use Rattle.run_meaning.specs.words.Requests.{request_of}
+use Rattle.run_meaning.specs.declared.words.wanted.Wanted.TheVariants.{Script as Named, Generated, Misworded}
+use Rattle.run_meaning.specs.generated.Generated.{generated as generated_text}
 use Rattle.run_meaning.specs.Ends.{Caused, RunsOver}
 use Rattle.run_meaning.specs.Run.{Ran, IsRefusedWhole}
 use Rattle.run_meaning.specs.Scripts.{IsScriptOf, IsMisspelled}

@@ -1,7 +1,7 @@
 use Rattle.std.proofs.Common.{◌≡◌, ◌∙◌, ◌⊎◌, List, ℕ, refl, sym, inl, inr, subst}
-use Rattle.command_words.specs.Requests.{request_of}
-use Rattle.command_words.specs.declared.wanted.Wanted.{Wanted}
-use Rattle.command_words.specs.declared.wanted.Wanted.TheVariants.{Script, Generated, Misworded}
+use Rattle.run_meaning.specs.words.Requests.{request_of}
+use Rattle.run_meaning.specs.declared.words.wanted.Wanted.{Wanted}
+use Rattle.run_meaning.specs.declared.words.wanted.Wanted.TheVariants.{Script, Generated, Misworded}
 use Rattle.perm_io.specs.Counts.{HasRisen}
 use Rattle.statement_meaning.specs.Answers.{can_be, over}
 use Rattle.run_meaning.specs.Ends.{EndsOne, RunsOver, over as output}

@@ -1,6 +1,0 @@
-use Rattle.std.proofs.Common.{◌≡◌, ◌++◌}
-use Rattle.generated_scripts.specs.Generated.{big_rows}
-use Rattle.generated_scripts.proofs.made.Draft.push_big_rows.Given as goal
-
-abbrev pub invariant-loop-place : goal.invariant-loop-place
-invariant-loop-place l = l.self ≡ l.fn.self ++ big_rows l.place

@@ -1,8 +1,0 @@
-//! The script that is made from a number.
-#![tactic(auto)]
-
-mod laws;
-mod made;
-
-pub use laws::a_generated_text_is_a_script;
-pub use made::generated;
