@@ -15,6 +15,7 @@ use Rattle.bag_algebra.specs.declared.query.JoinKind.{JoinKind}
 use Rattle.bag_algebra.specs.declared.query.JoinKind.TheVariants as join
 use Rattle.bag_algebra.specs.declared.query.SubKind.{SubKind}
 use Rattle.bag_algebra.specs.declared.query.SubKind.TheVariants as ask
+use Rattle.clause_texts.specs.Keys.{all_keys}
 use Rattle.clause_texts.specs.Names.{Naming, own, source_prefix, outermost}
 use Rattle.clause_texts.specs.Unused.{used_in, items_use, spare}
 use Rattle.clause_texts.specs.declared.tables.TableNames.{TableNames}
@@ -213,16 +214,12 @@ abbrev pub key_texts : ℕ → List Key → List ℕ
 key_texts number [] = []
 key_texts number (key ∷ keys) = key_text number key ++ key_texts (number + 1) keys
 
--- positions of all columns, behind so many keys
-abbrev pub position_text : ℕ → ℕ → List ℕ
-position_text keys number = comma (keys + number) ++ number_text (number + 1)
+abbrev pub ordered_text : List Key → List ℕ
+ordered_text keys = unless_none (length keys) (codes "ORDER BY ") ++ key_texts 0 keys
 
-abbrev pub position_texts : ℕ → ℕ → List ℕ
-position_texts keys count = flat_map (position_text keys) (range_with_len 0 count)
-
+-- the order that a LIMIT takes rows in, of so many columns
 abbrev pub order_text : List Key → ℕ → List ℕ
-order_text keys count =
-    unless_none (length keys + count) (codes "ORDER BY ") ++ (key_texts 0 keys ++ position_texts (length keys) count)
+order_text keys count = ordered_text (all_keys count keys)
 
 abbrev pub limited_text : List Key → ℕ → ℕ → List ℕ
 limited_text keys columns count = order_text keys columns ++ (codes "LIMIT " ++ number_text count)

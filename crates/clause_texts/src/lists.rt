@@ -1,15 +1,17 @@
 //! Writes SELECT lists, and keys.
-ghost use Rattle.std.specs.Prelude.{◌≡◌, ◌+◌, ◌++◌, OnOk};
+ghost use Rattle.std.specs.Prelude.{◌≡◌, ◌+◌, ◌++◌, IfOk, OnOk};
 ghost use Rattle.clause_texts.specs.Frames.{called_in};
+ghost use Rattle.clause_texts.specs.Keys.{all_keys, is_key, unless_key};
 ghost use Rattle.clause_texts.specs.Names.{names_of, naming};
-ghost use Rattle.clause_texts.specs.ClauseTexts.{as_text, called_item, called_items, column_item, column_items, columns_text, comma, item_text, key_text, key_texts, limited_text, listed_text, named_items, order_text, position_text, position_texts, table_text, unread_text};
+ghost use Rattle.clause_texts.specs.ClauseTexts.{as_text, called_item, called_items, column_item, column_items, columns_text, comma, item_text, key_text, key_texts, limited_text, listed_text, named_items, order_text, ordered_text, table_text, unread_text};
 ghost use Rattle.expression_texts.specs.Words.{name_text};
 
 use crate::frame::Frame;
 use crate::tables::table_of;
 use crate::words::direction_text;
 use expression_texts::{Draft, behind};
-use perm_values::{Chars, Key, NoMemory};
+use perm_values::{Chars, Key, List, NoMemory};
+use std::alloc::Global;
 
 /// What stands before the item of a number.
 pub(crate) fn push_comma(number: usize, draft: &mut Draft) -> Result<(), NoMemory>
@@ -144,8 +146,7 @@ fn push_key(number: usize, key: &Key, draft: &mut Draft) -> Result<(), NoMemory>
     draft.push(direction_text(key.descending))
 }
 
-/// Keys by their positions.
-pub fn push_keys(keys: &[Key], draft: &mut Draft) -> Result<(), NoMemory>
+fn push_keys(keys: &[Key], draft: &mut Draft) -> Result<(), NoMemory>
     ensures { OnOk result (draft.new ≡ draft.old ++ key_texts 0 keys.now) }
 {
     for (number, key) in keys.iter().enumerate() {
@@ -154,35 +155,60 @@ pub fn push_keys(keys: &[Key], draft: &mut Draft) -> Result<(), NoMemory>
     Ok(())
 }
 
-fn push_position(keys: usize, number: usize, draft: &mut Draft) -> Result<(), NoMemory>
-    ensures { OnOk result (draft.new ≡ draft.old ++ position_text keys number) }
+/// ORDER BY and keys by their positions; nothing where there is no key.
+pub fn push_ordered(keys: &[Key], draft: &mut Draft) -> Result<(), NoMemory>
+    ensures { OnOk result (draft.new ≡ draft.old ++ ordered_text keys.now) }
 {
-    let behind_keys = behind(keys, number)?;
-    let position = behind(number, 1)?;
-    push_comma(behind_keys, draft)?;
-    draft.push_number(position as u64)
+    draft.push_unless_none(keys.len(), b"ORDER BY ")?;
+    push_keys(keys, draft)
 }
 
-fn push_positions(keys: usize, count: usize, draft: &mut Draft) -> Result<(), NoMemory>
-    ensures { OnOk result (draft.new ≡ draft.old ++ position_texts keys count) }
+/// Whether one of the keys is the column at a place.
+fn is_key(keys: &[Key], place: usize) -> bool
+    ensures { result ≡ is_key keys.now place }
 {
-    for number in 0..count {
-        push_position(keys, number, draft)?;
+    for key in keys {
+        if key.place == place {
+            return true;
+        }
     }
-    Ok(())
+    false
 }
 
-/// The keys of a LIMIT, and behind them all columns.
+/// Adds the column at a place unless one of the keys is it.
+fn push_unless_key(all: &mut List<Key>, keys: &[Key], place: usize) -> Result<(), NoMemory>
+    ensures { OnOk result (all.new ≡ all.old ++ unless_key keys.now place) }
+{
+    if is_key(keys, place) {
+        Ok(())
+    } else {
+        all.push(Key {
+            place,
+            descending: false,
+        })
+    }
+}
+
+/// The keys, and behind them all other columns, of so many.
+fn all_keys(alloc: Global, keys: &[Key], count: usize) -> Result<List<Key>, NoMemory>
+    ensures { IfOk result (λ all. all ≡ all_keys count keys.now) }
+{
+    let mut all = List::copy_of(alloc, keys)?;
+    for place in 0..count {
+        push_unless_key(&mut all, keys, place)?;
+    }
+    Ok(all)
+}
+
+/// The order that a LIMIT takes rows in, of so many columns.
 fn push_order(keys: &[Key], count: usize, draft: &mut Draft) -> Result<(), NoMemory>
     ensures { OnOk result (draft.new ≡ draft.old ++ order_text keys.now count) }
 {
-    let all = behind(keys.len(), count)?;
-    draft.push_unless_none(all, b"ORDER BY ")?;
-    push_keys(keys, draft)?;
-    push_positions(keys.len(), count, draft)
+    let all = all_keys(draft.alloc(), keys, count)?;
+    push_ordered(all.as_slice(), draft)
 }
 
-/// The keys of a LIMIT, all columns, and how many rows stay.
+/// The keys of a LIMIT, the columns that are no key, and how many rows stay.
 pub fn push_limit(
     keys: &[Key],
     columns: usize,

@@ -11,7 +11,7 @@ use crate::sources::{
 };
 use crate::sublinks::push_asking;
 use bag_algebra::{Aggr, Answer, Item, JoinKind, Query, SubKind, Sublink};
-use clause_texts::{TableNames, push_keys, push_limit, push_set};
+use clause_texts::{TableNames, push_limit, push_ordered, push_set};
 use expression_texts::Draft;
 use perm_values::{Bytes, List, NoMemory};
 use std::alloc::Global;
@@ -365,8 +365,7 @@ fn push_answer(names: &mut Names, answer: &Answer, draft: &mut Draft) -> Result<
     } else {
         push_query(names, &answer.query, wanted, &Seen::Nothing, draft)?;
     }
-    draft.push_unless_none(answer.keys.len(), b"ORDER BY ")?;
-    push_keys(answer.keys.as_slice(), draft)
+    push_ordered(answer.keys.as_slice(), draft)
 }
 
 /// The text of a query without PROVENANCE, with the names of its columns and the order of its rows; what its tables are called

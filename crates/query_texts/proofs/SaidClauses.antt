@@ -1,5 +1,5 @@
 -- What conditions, keys and the names of an answer say is their text.
-use Rattle.std.proofs.Common.{◌≡◌, ◌∙◌, ℕ, zero, suc, ◌+◌, Bool, true, false, List, [], ◌∷◌, ◌++◌, map, refl, sym, ap, ap₂, append_assoc, append-nil, arith, add-zero}
+use Rattle.std.proofs.Common.{◌≡◌, ◌∙◌, ℕ, zero, suc, ◌+◌, Bool, true, false, List, [], ◌∷◌, ◌++◌, map, refl, sym, ap, ap₂, append_assoc}
 use Rattle.std.specs.Prelude.{codes, length}
 use Rattle.std.specs.List.{flat_map, range_with_len}
 use Rattle.perm_values.specs.declared.key.Key.{Key}
@@ -9,10 +9,10 @@ use Rattle.tree_texts.specs.Forms.{ExprForm, KeyForm}
 use Rattle.tree_texts.specs.Phrases.{direction, key, more_keys, ordered, grouped, more_groups}
 use Rattle.clause_texts.specs.Names.{outermost}
 use Rattle.query_texts.specs.forms.ShownExpressions.{never, never_arms, beside}
-use Rattle.query_texts.specs.forms.ShownQueries.{own_column, own_columns, key_form, all_keys, called_from}
+use Rattle.query_texts.specs.forms.ShownQueries.{own_column, own_columns, key_form, called_from}
 use Rattle.expression_texts.specs.ExpressionTexts.{arms_text}
 use Rattle.query_texts.specs.forms.Pieces.{said, expr_said}
-use Rattle.clause_texts.specs.ClauseTexts.{comma, grouped_column, grouped_text, direction_text, key_text, key_texts, position_text, order_text, called_items, nevers_text, beside_text}
+use Rattle.clause_texts.specs.ClauseTexts.{comma, grouped_column, grouped_text, direction_text, key_text, key_texts, ordered_text, called_items, nevers_text, beside_text}
 use Rattle.expression_texts.specs.Words.{name_text, number_text, null_text, reference_text, unless_none}
 use Rattle.query_texts.proofs.SaidExpressions.{arm_said, cases_said}
 use Rattle.query_texts.proofs.SaidLists.{comma_next}
@@ -87,48 +87,12 @@ keys_text number [] = refl
 keys_text number (key ∷ keys) =
     ap (λ rest. key_text number key ++ rest) (keys_text (number + 1) keys)
 
-abbrev at_position : ℕ → KeyForm
-at_position number = record { position = number; descending = false }
-
-positions_text : (keys number count : ℕ) → forms_text (keys + number) (map at_position (range_with_len (number + 1) count))
-    ≡ flat_map (position_text keys) (range_with_len number count)
-positions_text keys number zero = refl
-positions_text keys number (suc count) =
-    let next : keys + number + 1 ≡ keys + (number + 1) = omega arith in
-    ap₂ (λ text n. (comma (keys + number) ++ text) ++ forms_text n (map at_position (range_with_len (number + 1 + 1) count)))
-    (append-nil (number_text (number + 1))) next
-    ∙ ap (λ rest. position_text keys number ++ rest) (positions_text keys (number + 1) count)
-
-forms_append : (number : ℕ) (keys : List Key) (more : List KeyForm)
-    → forms_text number (map key_form keys ++ more) ≡ key_texts number keys ++ forms_text (number + length keys) more
-forms_append number [] more = ap (λ n. forms_text n more) (sym (add-zero number))
-forms_append number (key ∷ keys) more =
-    let next : number + 1 + length keys ≡ number + length (key ∷ keys) = omega arith in
-    ap (λ rest. key_text number key ++ rest)
-    (forms_append (number + 1) keys more ∙ ap (λ n. key_texts (number + 1) keys ++ forms_text n more) next)
-    ∙ sym (append_assoc (key_text number key) (key_texts (number + 1) keys) (forms_text (number + length (key ∷ keys)) more))
-
-length_of_keys : (keys : List Key) (first count : ℕ) → length (map key_form keys ++ map at_position (range_with_len first count)) ≡ length keys + count
-length_of_keys [] first zero = refl
-length_of_keys [] first (suc count) = ap suc (length_of_keys [] (first + 1) count) ∙ omega arith
-length_of_keys (key ∷ keys) first count = ap suc (length_of_keys keys first count) ∙ omega arith
-
-last : (keys : List Key) → 0 + length keys ≡ length keys + 0
-last keys = omega arith
-
 same_length : (keys : List Key) → length (map key_form keys) ≡ length keys
 same_length [] = refl
 same_length (key ∷ keys) = ap suc (same_length keys)
 
-pub order_said : (keys : List Key) (count : ℕ) → said (ordered (all_keys count keys)) ≡ order_text keys count
-order_said keys count =
-    ordered_said (all_keys count keys)
-    ∙ ap₂ (λ n t. unless_none n (codes "ORDER BY ") ++ t) (length_of_keys keys 1 count)
-    (forms_append 0 keys (map at_position (range_with_len 1 count))
-    ∙ ap (λ t. key_texts 0 keys ++ t) (ap (λ n. forms_text n (map at_position (range_with_len 1 count))) (last keys) ∙ positions_text (length keys) 0 count))
-
-pub answer_order_said : (keys : List Key) → said (ordered (map key_form keys)) ≡ unless_none (length keys) (codes "ORDER BY ") ++ key_texts 0 keys
-answer_order_said keys =
+pub order_said : (keys : List Key) → said (ordered (map key_form keys)) ≡ ordered_text keys
+order_said keys =
     ordered_said (map key_form keys) ∙ ap₂ (λ n t. unless_none n (codes "ORDER BY ") ++ t) (same_length keys) (keys_text 0 keys)
 
 -- ---- the names of an answer

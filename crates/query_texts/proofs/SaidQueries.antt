@@ -25,15 +25,16 @@ use Rattle.tree_texts.specs.Phrases.{maybe_distinct, joining, joining_lateral, g
 use Rattle.query_texts.specs.QueryTexts as texts
 use Rattle.query_texts.specs.QueryTexts.{Written, written, select, sub_texts, answer_bytes}
 use Rattle.clause_texts.specs.Chains.{is_chained}
+use Rattle.clause_texts.specs.Keys.{all_keys}
 use Rattle.clause_texts.specs.Names.{Naming, naming, own, deeper, names_of, outermost}
 use Rattle.query_texts.specs.forms.ShownExpressions.{shown_expr, beside}
 use Rattle.query_texts.specs.forms.ShownQueries.{own_columns, Listed, listed, one, columns, selected, alone, Chain, sources, just, then_joins, joined_to, source_name, Framed, copied, a_whole, a_select, a_block, apart_unless, of_table, tested_by, projected, joined, stays, in_groups, below_groups, aggregates_from, arguments, grouped_columns, key_form, any_of, all_of, tested_part, asked, framed, sub_forms, called, shown_answer}
 use Rattle.clause_texts.specs.Unused.{used_in, items_use, spare}
 use Rattle.clause_texts.specs.declared.tables.TableNames.{TableNames}
 use Rattle.query_texts.specs.forms.Pieces.{said, expr_said, query_said}
-use Rattle.clause_texts.specs.ClauseTexts.{as_text, item_text, unread_text, columns_text, named_items, over_text, table_text, beside_text, beside_joined, beside_lateral, source_text, condition_text, where_text, expr_items, projected_text, projecting_text, set_text, below_text, groups_text, any_text, all_text, part_text, asked_text, key_texts, called_items}
-use Rattle.expression_texts.specs.Words.{is_any, name_text, number_text, reference_text, unless_none}
-use Rattle.query_texts.proofs.SaidClauses.{beside_said, grouped_said, order_said, answer_order_said, called_said}
+use Rattle.clause_texts.specs.ClauseTexts.{as_text, item_text, unread_text, columns_text, named_items, over_text, table_text, beside_text, beside_joined, beside_lateral, source_text, condition_text, where_text, expr_items, projected_text, projecting_text, set_text, below_text, groups_text, any_text, all_text, part_text, asked_text, ordered_text, called_items}
+use Rattle.expression_texts.specs.Words.{is_any, name_text, number_text, reference_text}
+use Rattle.query_texts.proofs.SaidClauses.{beside_said, grouped_said, order_said, called_said}
 use Rattle.query_texts.proofs.SaidExpressions.{expression_said}
 use Rattle.query_texts.proofs.SaidLists.{list_said, items_said, listed_said, items_append, one_said, columns_length, columns_said, names_said, groups_said, arguments_said, aggregates_said}
 
@@ -453,7 +454,7 @@ module _ (tables : List TableNames) where
         (λ out. in_groups_said prefix out groups aggregates below.block below.test ∙ ap (groups_text prefix out groups aggregates) (form_says prefix input).block)
     form_says prefix (LimitOf input keys count) =
         whole_says prefix (width_of input) (written tables prefix (LimitOf input keys count)).whole (framed tables prefix (LimitOf input keys count)).whole
-        (λ out. ap₂ (λ a o. a ++ (o ++ (codes "LIMIT " ++ number_text count))) ((form_says prefix input).core false out) (order_said keys (width_of input)))
+        (λ out. ap₂ (λ a o. a ++ (o ++ (codes "LIMIT " ++ number_text count))) ((form_says prefix input).core false out) (order_said (all_keys (width_of input) keys)))
     form_says prefix (ProvOf input) =
         whole_says prefix (width_of (ProvOf input)) (written tables prefix input).whole (framed tables prefix input).whole (form_says prefix input).whole
 
@@ -486,7 +487,7 @@ module _ (tables : List TableNames) where
       let origin = said (plan.sources (sources below.block)) in
       let test = said (plan.where_clause below.test) in
       ap (λ c. c ++ (said (ordered (map key_form keys)) ++ [])) (select_said false (called names) (sources below.block) below.test)
-      ∙ ap₂ (λ l o. (codes "SELECT " ++ (l ++ (origin ++ test))) ++ (o ++ [])) (answer_list names) (answer_order_said keys)
-      ∙ answer_regroup unread (called_items 0 names) origin test (unless_none (length keys) (codes "ORDER BY ") ++ key_texts 0 keys)
-      ∙ ap (λ b. codes "SELECT " ++ (unread ++ (called_items 0 names ++ (b ++ (unless_none (length keys) (codes "ORDER BY ") ++ key_texts 0 keys)))))
+      ∙ ap₂ (λ l o. (codes "SELECT " ++ (l ++ (origin ++ test))) ++ (o ++ [])) (answer_list names) (order_said keys)
+      ∙ answer_regroup unread (called_items 0 names) origin test (ordered_text keys)
+      ∙ ap (λ b. codes "SELECT " ++ (unread ++ (called_items 0 names ++ (b ++ ordered_text keys))))
       (form_says outermost q).block

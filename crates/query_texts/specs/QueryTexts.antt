@@ -8,10 +8,10 @@ use Rattle.bag_algebra.specs.declared.query.Query.{Query, Row_of-Sublink, more_o
 use Rattle.bag_algebra.specs.declared.query.Query.TheVariants.{Table, Single}
 use Rattle.bag_algebra.specs.declared.query.Sublink.{Sublink}
 use Rattle.clause_texts.specs.Chains.{is_chained}
-use Rattle.clause_texts.specs.ClauseTexts.{asked_text, beside_joined, beside_lateral, called_items, columns_text, condition_text, groups_text, key_texts, limited_text, over_text, projecting_text, set_text, table_text, unread_text, where_text}
+use Rattle.clause_texts.specs.ClauseTexts.{asked_text, beside_joined, beside_lateral, called_items, columns_text, condition_text, groups_text, limited_text, ordered_text, over_text, projecting_text, set_text, table_text, unread_text, where_text}
 use Rattle.clause_texts.specs.Names.{Naming, deeper, naming, names_of, outermost, own}
 use Rattle.clause_texts.specs.declared.tables.TableNames.{TableNames}
-use Rattle.expression_texts.specs.Words.{is_any, unless_none}
+use Rattle.expression_texts.specs.Words.{is_any}
 
 -- what a query is written as
 pub record Written : Type 0 where
@@ -127,4 +127,4 @@ subs_texts tables prefix subs = map (sub_text tables prefix) subs
 abbrev pub answer_bytes : List TableNames → Query → List (List ℕ) → List Key → List ℕ
 answer_bytes tables q names keys =
     select (unread_text outermost (codes "1 ") (length names) ++ (called_items 0 names
-    ++ ((written tables outermost q).block ++ (unless_none (length keys) (codes "ORDER BY ") ++ key_texts 0 keys))))
+    ++ ((written tables outermost q).block ++ ordered_text keys)))

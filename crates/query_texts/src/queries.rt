@@ -12,9 +12,9 @@ use crate::shapes::{is_block, is_chain, is_chained, is_select};
 use bag_algebra::{Aggr, Answer, JoinKind, Query, Sublink};
 use clause_texts::{
     Frame, TableNames, asked_back, columns_of, deeper, join_text, lateral_text, push_above,
-    push_asking, push_below, push_called, push_columns, push_condition, push_grouped, push_keys,
-    push_lateral_source, push_limit, push_projecting, push_set, push_source, push_table,
-    push_unread, push_where,
+    push_asking, push_below, push_called, push_columns, push_condition, push_grouped,
+    push_lateral_source, push_limit, push_ordered, push_projecting, push_set, push_source,
+    push_table, push_unread, push_where,
 };
 use expression_texts::{Draft, behind};
 use perm_values::{Bytes, List, NoMemory};
@@ -375,8 +375,7 @@ fn push_answer(tables: &[TableNames], answer: &Answer, draft: &mut Draft) -> Res
     push_unread(frame.prefix, b"1 ", answer.names.len(), draft)?;
     push_called(answer.names.as_slice(), draft)?;
     push_block(&frame, &answer.query, draft)?;
-    draft.push_unless_none(answer.keys.len(), b"ORDER BY ")?;
-    push_keys(answer.keys.as_slice(), draft)
+    push_ordered(answer.keys.as_slice(), draft)
 }
 
 /// The text of a query with the names of its columns and the order of its rows, where PROVENANCE is taken out of it; what its

@@ -1,4 +1,5 @@
 pub mod AskedNumbers
+pub mod KeyColumns
 pub mod MarkedBags
 pub mod PrintedValues
 pub mod ReadSublinks

@@ -148,7 +148,7 @@ unfolding digits
 example-one_group = refl
 
 example-limit : text (LimitOf s (record { place = 0; descending = true } ∷ []) 2)
-    ≡ codes "SELECT \"c\" AS \"c1\" FROM \"s\" ORDER BY 1 DESC , 1 LIMIT 2 "
+    ≡ codes "SELECT \"c\" AS \"c1\" FROM \"s\" ORDER BY 1 DESC LIMIT 2 "
 unfolding digits
 example-limit = refl
 

@@ -23,6 +23,7 @@ use Rattle.tree_texts.specs.Forms as f
 use Rattle.tree_texts.specs.Forms.{ExprForm, ItemForms, SourceForm, JoinForms, FromForm, ConditionForm, ColumnForm, CoreForm, QueryForm, KeyForm, Joined, enclosed}
 use Rattle.expression_texts.specs.Names.{column_name}
 use Rattle.clause_texts.specs.Chains.{is_chained}
+use Rattle.clause_texts.specs.Keys.{all_keys}
 use Rattle.clause_texts.specs.Names.{Naming, naming, own, unread, outermost, deeper, names_of, source_prefix}
 use Rattle.expression_texts.specs.Words.{is_any}
 use Rattle.query_texts.specs.forms.ShownExpressions.{shown_expr, unsaid, beside}
@@ -220,10 +221,6 @@ in_groups prefix out groups aggregates chain test =
 abbrev pub key_form : Key → KeyForm
 key_form key = record { position = key.place + 1; descending = key.descending }
 
--- behind the keys all columns stand, so that the front rows are the same wherever the text runs
-abbrev pub all_keys : ℕ → List Key → List KeyForm
-all_keys count keys = map key_form keys ++ map (λ number. record { position = number; descending = false }) (range_with_len 1 count)
-
 -- ---- sublinks
 
 -- SQLite has IN and NOT IN in place of ANY and ALL
@@ -296,7 +293,7 @@ abbrev mutual
       alone (in_groups prefix out groups aggregates (framed tables prefix input).block (framed tables prefix input).test))
   framed tables prefix (LimitOf input keys count) =
       a_whole prefix (width_of input) (λ out.
-      f.one ((framed tables prefix input).core false out) (all_keys (width_of input) keys) (Some count))
+      f.one ((framed tables prefix input).core false out) (map key_form (all_keys (width_of input) keys)) (Some count))
   framed tables prefix (ProvOf input) = a_whole prefix (width_of (ProvOf input)) (framed tables prefix input).whole
 
   -- the forms of a node's sublinks, by their numbers

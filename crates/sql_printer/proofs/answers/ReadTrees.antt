@@ -1,8 +1,6 @@
 -- The tree of a query's form is read as what is printed of the query: each node over its inputs and sublinks.
-use Rattle.std.proofs.Common.{◌≡◌, ℕ, zero, suc, ◌+◌, ◌≤◌, Bool, true, false, cond, List, [], ◌∷◌, ◌++◌, length, map, Some, None, refl, sym, ap, subst, ◌∙◌, arith, true≢false}
-use Rattle.std.proofs.lemmas.List.{map-append}
+use Rattle.std.proofs.Common.{◌≡◌, ℕ, zero, suc, ◌+◌, Bool, true, false, cond, List, [], ◌∷◌, ◌++◌, length, map, Some, None, refl, sym, ap, subst, arith, true≢false}
 use Rattle.std.proofs.lemmas.Option.{none-some}
-use Rattle.std.specs.List.{range_with_len}
 use Rattle.perm_values.specs.Rows.{KeysWithin}
 use Rattle.perm_values.specs.declared.key.Key.{Key}
 use Rattle.perm_values.specs.declared.kind.Kind.{Kind}
@@ -25,17 +23,19 @@ use Rattle.name_meaning.specs.Sublinks.{around_of}
 use Rattle.name_meaning.specs.Trees.{from_of, item_of}
 use Rattle.tree_texts.specs.Forms as f
 use Rattle.tree_texts.specs.Forms.{ExprForm}
-use Rattle.tree_texts.specs.Trees.{AreSources, IsCore, IsQuery, no_source_trees}
+use Rattle.tree_texts.specs.Trees.{AreSources, IsCore, no_source_trees}
 use Rattle.clause_texts.specs.Chains.{is_chained}
+use Rattle.clause_texts.specs.Keys.{all_keys}
 use Rattle.clause_texts.specs.Names.{deeper, names_of, naming, own as own_naming}
 use Rattle.clause_texts.specs.Unused.{items_use, spare}
 use Rattle.clause_texts.specs.declared.tables.TableNames.{TableNames}
 use Rattle.expression_texts.specs.Words.{is_any}
 use Rattle.query_texts.specs.forms.ShownQueries as writing
-use Rattle.query_texts.specs.forms.ShownQueries.{Framed, framed, joined, joined_to, key_form, listed, of_table, one, projected, selected, shown, source_name, sources, sub_forms, tested_by, tested_part}
+use Rattle.query_texts.specs.forms.ShownQueries.{Framed, framed, joined, joined_to, listed, of_table, one, projected, selected, shown, source_name, sources, sub_forms, tested_by, tested_part}
 use Rattle.sql_printer.specs.rows.Printed as printing
 use Rattle.sql_printer.specs.rows.Printed.{Readings, condition_subs, printed, printed_condition, printed_subs, readings}
 use Rattle.sql_printer.specs.rows.Writable.{WritableQuery, WritableSubs}
+use Rattle.sql_printer.proofs.rows.KeyColumns.{all_keys-within}
 use Rattle.sql_printer.proofs.rows.ShownRows.{shown_kinds}
 use Rattle.sql_printer.specs.expressions.Scopes.{Few, ScopesAre, marks}
 use Rattle.sql_printer.specs.answers.ReadAs.{IsNamed, Narrow, NarrowSubs, source_in}
@@ -99,18 +99,6 @@ single-read c around distinct out first tree d =
     nothing-read [] no_source_trees = record { breaks = refl; items_are = refl; query_is = refl }
     nothing-read (first ∷ more) d = elim d [ ]
 
--- ---- keys
-
-keys-shown : (count : ℕ) (keys : List Key) → writing.all_keys count keys ≡ map key_form (printing.all_keys count keys)
-keys-shown count keys =
-    ap (λ more. map key_form keys ++ more) (places-shown 0 count)
-    ∙ sym (map-append key_form keys (map (λ place. record { place = place; descending = false }) (range_with_len 0 count)))
-  where
-    places-shown : (start count : ℕ) → map (λ number. record { position = number; descending = false }) (range_with_len (start + 1) count)
-        ≡ map key_form (map (λ place. record { place = place; descending = false }) (range_with_len start count))
-    places-shown start zero = refl
-    places-shown start (suc count) = ap (λ more. record { position = start + 1; descending = false } ∷ more) (places-shown (start + 1) count)
-
 -- ---- the right side of a set operation
 
 right-core : (c : Contents) (depth : ℕ) (outer : List (List Kind)) (unread : List ℕ) (around : Around) (left right : List Kind) → left ≡ right → Few left
@@ -119,7 +107,8 @@ right-core : (c : Contents) (depth : ℕ) (outer : List (List Kind)) (unread : L
 right-core c depth outer unread around left right same few s form r read out first tree d =
     subst (λ own. CoreRead c around (listed_names out first own) (shown_kinds own) r.core tree) (sym same) (read.core (subst Few same few) around s false out first tree d)
 
--- all keys are within what is given
+-- ---- keys, which are columns of what is given
+
 length-columns : (names : List (List ℕ)) (kinds : List Kind) → length names ≡ length kinds → length (out_columns names kinds) ≡ length kinds
 length-columns [] [] e = refl
 length-columns [] (kind ∷ kinds) e = absurd (omega (arith, e))
@@ -130,25 +119,13 @@ length-numbered : (out first : ℕ) (kinds : List Kind) → length (numbered_nam
 length-numbered out first [] = refl
 length-numbered out first (kind ∷ kinds) = ap suc (length-numbered out (suc first) kinds)
 
-range-within : (width start count : ℕ) → start + count ≤ width → KeysWithin width (map (λ place. record { place = place; descending = false }) (range_with_len start count))
-range-within width start zero h k d within = absurd (omega (arith, within))
-range-within width start (suc count) h zero d within = omega (arith, h)
-range-within width start (suc count) h (suc k) d within = range-within width (start + 1) count (omega (arith, h)) k d (omega (arith, within))
-
-both-within : (width : ℕ) (first more : List Key) → KeysWithin width first → KeysWithin width more → KeysWithin width (first ++ more)
-both-within width [] more h g k d within = g k d within
-both-within width (key ∷ first) more h g zero d within = h 0 d (omega arith)
-both-within width (key ∷ first) more h g (suc k) d within = both-within width first more (λ i e b. h (suc i) e (omega (arith, b))) g k d (omega (arith, within))
-
 keys-within : (own : List Kind) (out first : ℕ) (keys : List Key) → KeysIn (length own) keys
-    → KeysWithin (length (out_columns (listed_names out first own) (shown_kinds own))) (printing.all_keys (length own) keys)
+    → KeysWithin (length (out_columns (listed_names out first own) (shown_kinds own))) (all_keys (length own) keys)
 keys-within [] out first [] h = λ k d within. absurd (omega (arith, within))
 keys-within [] out first (key ∷ keys) h = let low = h 0 key (omega arith) in absurd (omega (arith, low))
 keys-within (kind ∷ own) out first keys h =
     let count = length-columns (numbered_names out first (kind ∷ own)) (kind ∷ own) (length-numbered out first (kind ∷ own)) in
-    subst (λ n. KeysWithin n (printing.all_keys (length (kind ∷ own)) keys)) (sym count)
-    (both-within (length (kind ∷ own)) keys (map (λ place. record { place = place; descending = false }) (range_with_len 0 (length (kind ∷ own)))) h
-    (range-within (length (kind ∷ own)) 0 (length (kind ∷ own)) (omega arith)))
+    subst (λ n. KeysWithin n (all_keys (length (kind ∷ own)) keys)) (sym count) (all_keys-within (length (kind ∷ own)) keys h)
 
 -- ---- all nodes
 
@@ -290,12 +267,10 @@ module _ (c : Contents) (tables : List TableNames) where
         let own = kinds_of input in
         let below = query-read input depth outer unread form.input w named narrow.1 in
         let r = readings source outer unread input in
-        let given = framed tables (marks (suc depth)) input in
-        whole-form c depth outer unread own (framed tables (marks (suc depth)) (LimitOf input keys count)).whole (Limit r.core (printing.all_keys (length own) keys) count)
+        whole-form c depth outer unread own (framed tables (marks (suc depth)) (LimitOf input keys count)).whole (Limit r.core (all_keys (length own) keys) count)
         (λ around s out first tree d.
-        (one-read c (printing.all_keys (length own) keys) (Some count) around (listed_names out first own) (shown_kinds own) r.core (keys-within own out first keys form.keys)
-        (subst (λ ks. IsQuery (f.one (given.core false (naming (marks out) first)) ks (Some count)) tree) (keys-shown (length own) keys) d)
-        (λ core e. below.core narrow.0 around s false out first core e)).0)
+        (one-read c (all_keys (length own) keys) (Some count) around (listed_names out first own) (shown_kinds own) r.core (keys-within own out first keys form.keys)
+        d (λ core e. below.core narrow.0 around s false out first core e)).0)
     query-read (ProvOf input) depth outer unread form w named narrow = absurd w
 
     subs-read : {m : _} (subs : Row_of-Sublink m) (depth : ℕ) (scopes : List (List Kind)) (unread : List ℕ) (here : Surroundings) → ScopesAre depth scopes unread here.scopes

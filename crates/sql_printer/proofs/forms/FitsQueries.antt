@@ -1,5 +1,5 @@
 -- The form of a query can be written where the query can be printed.
-use Rattle.std.proofs.Common.{ℕ, ◌<◌, ◌^◌, ◌+◌, zero, suc, Bool, true, false, cond, List, [], ◌∷◌, ◌++◌, length, map, Option, Some, None, arith}
+use Rattle.std.proofs.Common.{ℕ, ◌<◌, ◌^◌, ◌+◌, Bool, true, false, cond, List, [], ◌∷◌, ◌++◌, length, map, Option, Some, None, arith}
 use Rattle.std.specs.List.{AllByRecursion, find, range_with_len}
 use Rattle.std.specs.Prelude.{unwrap_or}
 use Rattle.std.specs.Str.{IsAscii, IsUtf8}
@@ -21,8 +21,9 @@ use Rattle.bag_algebra.specs.declared.query.Query.TheVariants.{Table, Single}
 use Rattle.perm_values.specs.declared.kind.Kind.{Kind}
 use Rattle.tree_texts.specs.Fits.{FitsColumn, FitsCondition, FitsCore, FitsExpr, FitsFrom, FitsItems, FitsJoins, FitsKey, FitsQuery}
 use Rattle.tree_texts.specs.Forms as f
-use Rattle.tree_texts.specs.Forms.{ConditionForm, CoreForm, ExprForm, JoinForms, KeyForm, QueryForm}
+use Rattle.tree_texts.specs.Forms.{ConditionForm, CoreForm, ExprForm, JoinForms, QueryForm}
 use Rattle.clause_texts.specs.Chains.{is_chained}
+use Rattle.clause_texts.specs.Keys.{all_keys}
 use Rattle.clause_texts.specs.Names.{Naming, deeper, has_id, names_of, nameless, naming, outermost, own, source_prefix}
 use Rattle.clause_texts.specs.Unused.{items_use, spare, used_in}
 use Rattle.clause_texts.specs.declared.tables.TableNames.{TableNames}
@@ -30,6 +31,7 @@ use Rattle.expression_texts.specs.Words.{is_any}
 use Rattle.query_texts.specs.forms.ShownExpressions.{beside, shown_expr}
 use Rattle.query_texts.specs.forms.ShownQueries.{Chain, Framed, Listed, a_block, a_select, a_whole, aggregated, aggregates_from, alone, argument, arguments, apart_unless, below_groups, called, called_from, columns, copied, framed, grouped_columns, in_groups, joined, joined_to, just, key_form, listed, named_from, of_table, one, own_column, projected, selected, shown, shown_answer, source_name, sources, stays, sub_forms, tested_by, tested_part, then_joins}
 use Rattle.sql_printer.specs.rows.Writable.{Writable, WritableAggregates, WritableItems, WritableOption}
+use Rattle.sql_printer.proofs.rows.KeyColumns.{all_keys-within}
 use Rattle.sql_printer.specs.forms.Printable.{AreCharacters, Printable, PrintableSubs}
 use Rattle.sql_printer.proofs.forms.FitsExpressions.{AllFit, fits-asked, fits-beside, fits-name, fits-shown, fits-tested}
 use Rattle.sql_printer.proofs.forms.PrintableNodes.{printable-short}
@@ -93,15 +95,6 @@ keys-fit width [] short within = tt
 keys-fit width (key ∷ keys) short within =
     let here : key.place < width = All-head (λ (k : Key). k.place < width) key keys within in
     (omega (arith, here, short), keys-fit width keys short (All-tail (λ (k : Key). k.place < width) key keys within))
-
-positions-fit : (from count : ℕ) → from + count < 2 ^ 63
-    → AllByRecursion FitsKey (map (λ number. record { position = number; descending = false }) (range_with_len from count))
-positions-fit from zero short = tt
-positions-fit from (suc count) short = (omega (arith, short), positions-fit (from + 1) count (omega (arith, short)))
-
-both-fit : (keys others : List KeyForm) → AllByRecursion FitsKey keys → AllByRecursion FitsKey others → AllByRecursion FitsKey (keys ++ others)
-both-fit [] others p q = q
-both-fit (key ∷ keys) others p q = (p.0, both-fit keys others p.1 q)
 
 -- ---- parts of a node
 
@@ -324,11 +317,7 @@ module _ (tables : List TableNames) (all : AllByRecursion AreCharacters tables) 
         let given = framed-fits prefix ascii input outer form.input p.1 in
         whole-fits prefix ascii (width_of input) (framed tables prefix (LimitOf input keys count)).whole (λ out to. (
           given.core false out to,
-          (
-            both-fit (map key_form keys) (map (λ number. record { position = number; descending = false }) (range_with_len 1 (width_of input)))
-                (keys-fit (width_of input) keys p.0 form.keys) (positions-fit 1 (width_of input) p.0),
-            form.bound,
-          ),
+          (keys-fit (width_of input) (all_keys (width_of input) keys) p.0 (all_keys-within (width_of input) keys form.keys), form.bound),
         ))
     framed-fits prefix ascii (ProvOf input) outer form p =
         whole-fits prefix ascii (width_of (ProvOf input)) (framed tables prefix input).whole (framed-fits prefix ascii input outer form p.1).whole

@@ -1,7 +1,9 @@
 -- Set operations, DISTINCT and LIMIT over rows that are marked.
-use Rattle.std.proofs.Common.{◌≡◌, ℕ, zero, suc, ◌+◌, ◌<◌, Bool, true, false, cond, not, List, [], ◌∷◌, ◌++◌, length, map, filter, take, refl, sym, ap, subst, ◌∙◌, arith}
-use Rattle.std.specs.List.{range_with_len}
-use Rattle.std.specs.Ordering.{is_gt, ordering_then}
+use Rattle.std.proofs.Common.{◌≡◌, ℕ, zero, suc, ◌+◌, ◌<◌, Bool, true, false, cond, not, ◌||◌, List, [], ◌∷◌, ◌++◌, length, map, filter, take, refl, sym, ap, subst, ◌∙◌, arith, true≢false}
+use Rattle.std.proofs.lemmas.Bool.{eqb-true}
+use Rattle.std.specs.List.{AllByRecursion, range_with_len}
+use Rattle.std.specs.Prelude.{nat_eq}
+use Rattle.std.specs.Ordering.{is_gt, ordering_reverse, ordering_then}
 use Rattle.std.specs.declared.cmp.Ordering.{Ordering}
 use Rattle.std.specs.declared.cmp.Ordering.TheVariants.{Less, Equal, Greater}
 use Rattle.perm_values.specs.Rows.{key_cmp, printed_cmp, row_cmp, same_row, value_at}
@@ -11,7 +13,7 @@ use Rattle.perm_values.specs.declared.kind.Kind.{Kind}
 use Rattle.bag_algebra.specs.Bags.{Row, Bag, member, once, without_first, in_both, beyond, union_of, intersect_of, except_of, placed, sorted}
 use Rattle.bag_algebra.specs.Outcome.{Outcome, Good, Bad, mapped, both}
 use Rattle.bag_algebra.specs.WellFormed.{KeysIn}
-use Rattle.sql_printer.specs.rows.Printed.{all_keys}
+use Rattle.clause_texts.specs.Keys.{all_keys, at_place, is_key, other_keys}
 use Rattle.sql_printer.proofs.rows.MarkedBags.{once-marked, union-marked, intersect-marked, except-marked}
 use Rattle.sql_printer.proofs.rows.RelatedOutcomes.{Along, AlikeOutcomes}
 use Rattle.sql_printer.proofs.rows.ShownRows.{Shown, Wide, WideOutcome, mark, mark-same, marked-alike, wide-marked}
@@ -143,34 +145,78 @@ then-same Less = refl
 then-same Equal = refl
 then-same Greater = refl
 
-abbrev at_place : ℕ → Key
-at_place place = record { place = place; descending = false }
+then-tied : (a b c : Ordering) → (a ≡ Equal → b ≡ c) → ordering_then a b ≡ ordering_then a c
+then-tied Less b c same = refl
+then-tied Equal b c same = same refl
+then-tied Greater b c same = refl
 
--- columns from a place on are the rest of the rows
-columns-cmp : (u v xs ys : Row) (start : ℕ) → length xs ≡ length ys
-    → ((place : ℕ) → place < length xs → value_at u (start + place) ≡ value_at xs place)
-    → ((place : ℕ) → place < length ys → value_at v (start + place) ≡ value_at ys place)
-    → printed_cmp (map at_place (range_with_len start (length xs))) u v ≡ ordering_then (row_cmp xs ys) (row_cmp u v)
-columns-cmp u v [] [] start same f g = refl
-columns-cmp u v [] (y ∷ ys) start same f g = absurd (omega (arith, same))
-columns-cmp u v (x ∷ xs) [] start same f g = absurd (omega (arith, same))
-columns-cmp u v (x ∷ xs) (y ∷ ys) start same f g =
-    let own : start ≡ start + 0 = omega arith in
-    let first : value_at u start ≡ x = ap (value_at u) own ∙ f 0 (omega arith) in
-    let second : value_at v start ≡ y = ap (value_at v) own ∙ g 0 (omega arith) in
-    let rest = columns-cmp u v xs ys (start + 1) (omega (arith, same))
-    (λ place h. let next : start + 1 + place ≡ start + suc place = omega arith in ap (value_at u) next ∙ f (suc place) (omega (arith, h)))
-    (λ place h. let next : start + 1 + place ≡ start + suc place = omega arith in ap (value_at v) next ∙ g (suc place) (omega (arith, h))) in
-    (λ i. ordering_then (value_cmp (first i) (second i)) (rest i)) ∙ then-then (value_cmp x y) (row_cmp xs ys) (row_cmp u v)
+reversed-twice : (a : Ordering) → ordering_reverse (ordering_reverse a) ≡ a
+reversed-twice Less = refl
+reversed-twice Equal = refl
+reversed-twice Greater = refl
 
-all_keys-cmp : (keys : List Key) (u v : Row) (width : ℕ) → length u ≡ width → length v ≡ width
-    → printed_cmp (all_keys width keys) u v ≡ printed_cmp keys u v
-all_keys-cmp [] u v width h k =
-    let own : (w : Row) (place : ℕ) → place < length w → value_at w (0 + place) ≡ value_at w place =
-    λ w place b. let none : 0 + place ≡ place = omega arith in ap (value_at w) none in
-    ap (λ n. printed_cmp (map at_place (range_with_len 0 n)) u v) (sym h)
-    ∙ columns-cmp u v u v 0 (h ∙ sym k) (own u) (own v) ∙ then-same (row_cmp u v)
-all_keys-cmp (key ∷ keys) u v width h k = ap (ordering_then (key_cmp key u v)) (all_keys-cmp keys u v width h k)
+unreversed : (descending : Bool) (a : Ordering) → cond descending (ordering_reverse a) a ≡ Equal → a ≡ Equal
+unreversed true a tie = sym (reversed-twice a) ∙ ap ordering_reverse tie
+unreversed false a tie = tie
+
+-- ---- rows that no key tells apart
+
+module _ (u v : Row) where
+  abbrev column_cmp : ℕ → Ordering
+  column_cmp place = value_cmp (value_at u place) (value_at v place)
+
+  abbrev Tied : List Key → Type 0
+  Tied keys = AllByRecursion (λ (key : Key). key_cmp key u v ≡ Equal) keys
+
+  tied-or-later : (key : Key) (place : ℕ) (b : Bool) (later : Bool) → nat_eq key.place place ≡ b → key_cmp key u v ≡ Equal
+      → (later ≡ true → column_cmp place ≡ Equal) → (b || later) ≡ true → column_cmp place ≡ Equal
+  tied-or-later key place true later here tie rest e =
+      subst (λ p. column_cmp p ≡ Equal) (eqb-true key.place place here) (unreversed key.descending (column_cmp key.place) tie)
+  tied-or-later key place false later here tie rest e = rest e
+
+  -- nor does the column of a key
+  tied-at : (keys : List Key) (place : ℕ) → Tied keys → is_key keys place ≡ true → column_cmp place ≡ Equal
+  tied-at [] place ties e = absurd (true≢false (sym e))
+  tied-at (key ∷ keys) place ties e =
+      tied-or-later key place (nat_eq key.place place) (is_key keys place) refl ties.0 (tied-at keys place ties.1) e
+
+  -- behind the keys only rows are compared that these don't tell apart
+  behind-keys : (keys more : List Key) → (Tied keys → printed_cmp more u v ≡ row_cmp u v) → printed_cmp (keys ++ more) u v ≡ printed_cmp keys u v
+  behind-keys [] more same = same tt
+  behind-keys (key ∷ keys) more same =
+      then-tied (key_cmp key u v) (printed_cmp (keys ++ more) u v) (printed_cmp keys u v) (λ tie. behind-keys keys more (λ ties. same (tie, ties)))
+
+  -- so a column that is left out because a key is it tells nothing
+  unless-cmp : (b : Bool) (place : ℕ) (more : List Key) → (b ≡ true → column_cmp place ≡ Equal)
+      → printed_cmp (cond b [] (at_place place ∷ []) ++ more) u v ≡ ordering_then (column_cmp place) (printed_cmp more u v)
+  unless-cmp true place more tie = ap (λ o. ordering_then o (printed_cmp more u v)) (sym (tie refl))
+  unless-cmp false place more tie = refl
+
+  -- columns from a place on are the rest of the rows
+  columns-cmp : (keys : List Key) → Tied keys → (xs ys : Row) (start : ℕ) → length xs ≡ length ys
+      → ((place : ℕ) → place < length xs → value_at u (start + place) ≡ value_at xs place)
+      → ((place : ℕ) → place < length ys → value_at v (start + place) ≡ value_at ys place)
+      → printed_cmp (other_keys keys (range_with_len start (length xs))) u v ≡ ordering_then (row_cmp xs ys) (row_cmp u v)
+  columns-cmp keys ties [] [] start same f g = refl
+  columns-cmp keys ties [] (y ∷ ys) start same f g = absurd (omega (arith, same))
+  columns-cmp keys ties (x ∷ xs) [] start same f g = absurd (omega (arith, same))
+  columns-cmp keys ties (x ∷ xs) (y ∷ ys) start same f g =
+      let own : start ≡ start + 0 = omega arith in
+      let first : value_at u start ≡ x = ap (value_at u) own ∙ f 0 (omega arith) in
+      let second : value_at v start ≡ y = ap (value_at v) own ∙ g 0 (omega arith) in
+      let rest = columns-cmp keys ties xs ys (start + 1) (omega (arith, same))
+      (λ place h. let next : start + 1 + place ≡ start + suc place = omega arith in ap (value_at u) next ∙ f (suc place) (omega (arith, h)))
+      (λ place h. let next : start + 1 + place ≡ start + suc place = omega arith in ap (value_at v) next ∙ g (suc place) (omega (arith, h))) in
+      unless-cmp (is_key keys start) start (other_keys keys (range_with_len (start + 1) (length xs))) (tied-at keys start ties)
+      ∙ (λ i. ordering_then (value_cmp (first i) (second i)) (rest i)) ∙ then-then (value_cmp x y) (row_cmp xs ys) (row_cmp u v)
+
+  all_keys-cmp : (keys : List Key) (width : ℕ) → length u ≡ width → length v ≡ width → printed_cmp (all_keys width keys) u v ≡ printed_cmp keys u v
+  all_keys-cmp keys width h k =
+      let own : (w : Row) (place : ℕ) → place < length w → value_at w (0 + place) ≡ value_at w place =
+      λ w place b. let none : 0 + place ≡ place = omega arith in ap (value_at w) none in
+      behind-keys keys (other_keys keys (range_with_len 0 width)) (λ ties.
+      ap (λ n. printed_cmp (other_keys keys (range_with_len 0 n)) u v) (sym h)
+      ∙ columns-cmp keys ties u v 0 (h ∙ sym k) (own u) (own v) ∙ then-same (row_cmp u v))
 
 no_keys : (keys : List Key) → KeysIn 0 keys → keys ≡ []
 no_keys [] within = refl
@@ -180,7 +226,7 @@ marked-cmp : (kinds : List Kind) (keys : List Key) → KeysIn (length kinds) key
     → printed_cmp (all_keys (length kinds) keys) (mark kinds u) (mark kinds v) ≡ printed_cmp keys u v
 marked-cmp [] keys within u v h k =
     ap (λ ks. printed_cmp (all_keys 0 ks) (mark [] u) (mark [] v)) (no_keys keys within) ∙ ap (λ ks. printed_cmp ks u v) (sym (no_keys keys within))
-marked-cmp (kind ∷ kinds) keys within u v h k = all_keys-cmp keys u v (length (kind ∷ kinds)) h k
+marked-cmp (kind ∷ kinds) keys within u v h k = all_keys-cmp u v keys (length (kind ∷ kinds)) h k
 
 -- ---- sorting
 

@@ -3,7 +3,6 @@ use Rattle.std.specs.Prelude.{ℕ, suc, ◌+◌, Bool, false, cond, List, [], �
 use Rattle.std.specs.List.{flat_map, range_with_len}
 use Rattle.null_logic.specs.declared.operator.Operator.{Operator}
 use Rattle.null_logic.specs.declared.operator.Operator.TheVariants as op
-use Rattle.perm_values.specs.declared.key.Key.{Key}
 use Rattle.perm_values.specs.declared.kind.Kind.{Kind}
 use Rattle.perm_values.specs.declared.kind.Kind.TheVariants as kinds
 use Rattle.bag_algebra.specs.Kinds.{kinds_of, kind_in, kinds_in, width_of}
@@ -23,6 +22,7 @@ use Rattle.bag_algebra.specs.declared.query.SubKind.TheVariants.{Exists}
 use Rattle.bag_algebra.specs.declared.query.Sublink.{Sublink}
 use Rattle.expression_texts.specs.Words.{is_any}
 use Rattle.clause_texts.specs.Chains.{is_chained}
+use Rattle.clause_texts.specs.Keys.{all_keys}
 use Rattle.clause_texts.specs.Unused.{used_in, items_use, spare}
 use Rattle.sql_printer.specs.rows.PrintedExpressions.{asked_in, integer, printed_expr, beside}
 
@@ -236,11 +236,6 @@ in_groups scopes unread before groups aggregates below q =
     let inner = Project q (or_unread unread_item (grouped before below groups ++ arguments scopes unread aggregates)) [] in
     Project (Aggregate inner (range_with_len 0 (length groups)) (or_counted groups numbered))
     (or_unread (column 0 kinds.Integer) (columns_from 0 (kinds_in below groups ++ map (λ (aggregate : Aggr). aggregate.kind) aggregates))) []
-
--- ---- order
-
-abbrev pub all_keys : ℕ → List Key → List Key
-all_keys count keys = keys ++ map (λ place. record { place = place; descending = false }) (range_with_len 0 count)
 
 -- ---- queries
 
