@@ -18,5 +18,5 @@ pub use groups::{push_above, push_below, push_grouped};
 pub use joins::{push_lateral_source, push_set, push_source};
 pub use lists::{push_called, push_columns, push_keys, push_limit, push_table, push_unread};
 pub use sublinks::push_asking;
-pub use tables::TableNames;
-pub use words::{asked_back, join_text, lateral_text};
+pub use tables::{TableNames, table_of};
+pub use words::{all_text, any_text, asked_back, join_text, lateral_text};

@@ -22,7 +22,7 @@ impl TableNames {
 }
 
 /// The names of the table of an identity; `None` where none has that.
-pub(crate) fn table_of(tables: &[TableNames], id: u64) -> Option<&TableNames>
+pub fn table_of(tables: &[TableNames], id: u64) -> Option<&TableNames>
     ensures { option_copied result ≡ table_of tables.now id }
 {
     for table in tables {

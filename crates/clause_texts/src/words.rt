@@ -41,7 +41,8 @@ pub(crate) fn lateral_on(kind: JoinKind) -> &'static [u8]
     }
 }
 
-pub(crate) fn any_text(compare: Compare) -> &'static [u8]
+/// What stands between what ANY compares and its query.
+pub fn any_text(compare: Compare) -> &'static [u8]
     ensures { result.now ≡ any_text compare }
 {
     match compare {
@@ -54,7 +55,8 @@ pub(crate) fn any_text(compare: Compare) -> &'static [u8]
     }
 }
 
-pub(crate) fn all_text(compare: Compare) -> &'static [u8]
+/// What stands between what ALL compares and its query.
+pub fn all_text(compare: Compare) -> &'static [u8]
     ensures { result.now ≡ all_text compare }
 {
     match compare {
