@@ -100,25 +100,14 @@ fn are_short(names: &[Chars]) -> bool {
     names.iter().all(|name| name.bytes().len() <= LONGEST_NAME)
 }
 
-/// Whether no name has a capital letter, which SQLite doesn't tell from a small one.
-fn are_small(names: &[Chars]) -> bool {
-    names.iter().all(|name| !has_capital(name.bytes()))
+/// Whether the names of a table and of its columns are short.
+fn has_short_names(table: &TableNames) -> bool {
+    table.name.bytes().len() <= LONGEST_NAME && are_short(table.columns.as_slice())
 }
 
-fn has_capital(name: &[u8]) -> bool {
-    name.iter().any(|byte| byte.is_ascii_uppercase())
-}
-
-/// Whether a text may repeat the name of a table, and those of its columns.
-fn may_repeat(table: &TableNames) -> bool {
-    let columns = table.columns.as_slice();
-    let name = table.name.bytes();
-    name.len() <= LONGEST_NAME && !has_capital(name) && are_short(columns) && are_small(columns)
-}
-
-/// Whether a text may repeat the names of all tables, and those of their columns and of an answer's are short.
+/// Whether a text may repeat the names of all tables, of their columns and of an answer's.
 fn names_may_repeat(tables: &[TableNames], names: &[Chars]) -> bool {
-    tables.iter().all(|table| may_repeat(table)) && are_short(names)
+    tables.iter().all(|table| has_short_names(table)) && are_short(names)
 }
 
 /// The text with names, where its plain text is the other one; else the other one.

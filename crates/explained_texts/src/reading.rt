@@ -11,7 +11,7 @@ use answer_texts::a_text_explains_one_meaning;
 use name_analysis::resolve;
 use name_meaning::Resolved;
 use name_seen_parts::Refusal;
-use name_statements::{let_resolved_go, let_statement_go};
+use name_statements::{let_resolved_go, let_statement_go, let_statements_go};
 use perm_catalog::Catalog;
 use perm_values::{Bytes, List, NoMemory};
 use sql_grammar::{Sort, same_sort, sort_of};
@@ -39,8 +39,12 @@ fn only_query(script: Script) -> Option<Statement>
     ensures { OnlyQuery script result }
 {
     let Script { mut statements } = script;
-    match statements.pop() {
-        Some(statement) if statements.is_empty() => asking(statement),
+    let last = statements.pop();
+    let is_only = statements.is_empty();
+    // What is left is let go in a call, so that no trees are dropped here.
+    let_statements_go(statements.into_vec().into_iter());
+    match last {
+        Some(statement) if is_only => asking(statement),
         Some(statement) => {
             let_statement_go(statement);
             None

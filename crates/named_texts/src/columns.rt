@@ -1,5 +1,4 @@
 //! The columns that an expression sees.
-use crate::words::count_of;
 use expression_texts::Draft;
 use perm_values::{Bytes, Chars, List, NoMemory};
 use std::alloc::Global;
@@ -60,27 +59,6 @@ fn column_of(alloc: Global, source: &[u8], name: &[u8]) -> Result<Column, NoMemo
         name: called,
         reference: reference.into_bytes(),
     })
-}
-
-/// The names, where each that repeats an earlier one has a number behind it.
-pub(crate) fn told_apart(alloc: Global, names: &[Bytes]) -> Result<List<Bytes>, NoMemory> {
-    let mut apart = List::new(alloc);
-    for (number, name) in names.iter().enumerate() {
-        let earlier = count_of(&names[..number], name.as_slice());
-        apart.push(numbered(alloc, name.as_slice(), earlier)?)?;
-    }
-    Ok(apart)
-}
-
-/// A name, with a number behind it unless that is 0.
-pub(crate) fn numbered(alloc: Global, name: &[u8], number: usize) -> Result<Bytes, NoMemory> {
-    let mut whole = Bytes::new(alloc);
-    whole.add(name)?;
-    if number > 0 {
-        whole.add(b"_")?;
-        whole.add(number.to_string(alloc)?.as_bytes())?;
-    }
-    Ok(whole)
 }
 
 /// The names of an answer's columns, or of a table's.

@@ -1,6 +1,6 @@
 //! Writes expressions, where each sublink of the node has its text.
 use crate::columns::{Seen, column_at};
-use crate::words::{arith_word, compare_word};
+use crate::words::push_spelling;
 use bag_algebra::{Arm, ChainStep, Expr};
 use expression_texts::{Draft, push_expr};
 use null_logic::{Operator, Truth};
@@ -133,26 +133,25 @@ fn push_operated(
     draft: &mut Draft,
 ) -> Result<(), NoMemory> {
     match op {
-        Operator::And => push_between(b"AND ", true, parts, seen, subs, draft),
-        Operator::Or => push_between(b"OR ", true, parts, seen, subs, draft),
-        Operator::Not => push_behind(b"NOT ", parts, seen, subs, draft),
-        Operator::Negate => push_behind(b"- ", parts, seen, subs, draft),
-        Operator::Compare(compare) => {
-            push_between(compare_word(compare), false, parts, seen, subs, draft)
+        Operator::And | Operator::Or => {
+            push_between(op.spelling(), true, parts, seen, subs, draft)
         }
+        Operator::Compare(_) | Operator::Like => {
+            push_between(op.spelling(), false, parts, seen, subs, draft)
+        }
+        Operator::Not | Operator::Negate => push_behind(op.spelling(), parts, seen, subs, draft),
         Operator::Arith(_) => Ok(()),
-        Operator::Like => push_between(b"LIKE ", false, parts, seen, subs, draft),
         Operator::Between => push_range(parts, seen, subs, draft),
         Operator::InList => push_in(parts, seen, subs, draft),
-        Operator::Coalesce => push_call(b"COALESCE ( ", parts, seen, subs, draft),
+        Operator::Coalesce => push_coalesced(parts, seen, subs, draft),
         Operator::NullIf => push_call(b"NULLIF ( ", parts, seen, subs, draft),
     }
 }
 
-/// Operands with a word between them.
+/// Operands with an operator between them.
 #[cycle(push_bare)]
 fn push_between(
-    word: &[u8],
+    spelling: &str,
     is_connective: bool,
     parts: &[Expr],
     seen: &Seen,
@@ -161,7 +160,7 @@ fn push_between(
 ) -> Result<(), NoMemory> {
     for (number, part) in parts.iter().enumerate() {
         if number > 0 {
-            draft.push(word)?;
+            push_spelling(spelling, draft)?;
         }
         let is_bare = stands_alone(part) || (is_connective && is_test(part));
         push_unless(is_bare, part, seen, subs, draft)?;
@@ -171,14 +170,14 @@ fn push_between(
 
 #[cycle(push_bare)]
 fn push_behind(
-    word: &[u8],
+    spelling: &str,
     parts: &[Expr],
     seen: &Seen,
     subs: &[Bytes],
     draft: &mut Draft,
 ) -> Result<(), NoMemory> {
-    draft.push(word)?;
-    push_between(b"", false, parts, seen, subs, draft)
+    push_spelling(spelling, draft)?;
+    push_between(spelling, false, parts, seen, subs, draft)
 }
 
 #[cycle(push_bare)]
@@ -212,6 +211,20 @@ fn push_in(parts: &[Expr], seen: &Seen, subs: &[Bytes], draft: &mut Draft) -> Re
     draft.push(b") ")
 }
 
+/// COALESCE of operands; of one, which other engines refuse, the operand alone.
+#[cycle(push_bare)]
+fn push_coalesced(
+    parts: &[Expr],
+    seen: &Seen,
+    subs: &[Bytes],
+    draft: &mut Draft,
+) -> Result<(), NoMemory> {
+    match parts {
+        [part] => push_part(part, seen, subs, draft),
+        _ => push_call(b"COALESCE ( ", parts, seen, subs, draft),
+    }
+}
+
 #[cycle(push_bare)]
 fn push_call(
     word: &[u8],
@@ -238,7 +251,7 @@ fn push_steps(
     draft: &mut Draft,
 ) -> Result<(), NoMemory> {
     for step in steps {
-        draft.push(arith_word(step.op))?;
+        push_spelling(step.op.spelling(), draft)?;
         push_part(&step.part, seen, subs, draft)?;
     }
     Ok(())

@@ -2,6 +2,7 @@
 //! whoever prints one reads it back.
 #![tactic(auto)]
 
+mod called;
 mod columns;
 mod expressions;
 mod lists;

@@ -1,5 +1,6 @@
 //! Writes SELECT lists.
-use crate::columns::{Column, Seen, column_at, told_apart};
+use crate::called::told_apart;
+use crate::columns::{Column, Seen, column_at};
 use crate::expressions::push_bare;
 use crate::words::{aggregate_name, aggregate_words};
 use bag_algebra::{AggFn, Aggr, Expr, Item};

@@ -1,16 +1,15 @@
 //! What tables are called, and what sources of FROM have been called so far.
-use crate::columns::numbered;
-use crate::words::count_of;
-use clause_texts::TableNames;
-use perm_values::{Bytes, List, NoMemory};
+use crate::called::Called;
+use clause_texts::{TableNames, table_of};
+use perm_values::{Bytes, NoMemory};
 use std::alloc::Global;
 
-/// What tables are called, and what the sources of a text were called so far, without the numbers behind their names.
+/// What tables are called, and what the sources of a text were called so far.
 #[derive(Drop)]
 pub(crate) struct Names<'a> {
     alloc: Global,
     tables: &'a [TableNames],
-    called: List<Bytes>,
+    called: Called,
 }
 
 impl<'a> Names<'a> {
@@ -18,7 +17,7 @@ impl<'a> Names<'a> {
         Names {
             alloc,
             tables,
-            called: List::new(alloc),
+            called: Called::new(alloc),
         }
     }
 
@@ -28,20 +27,11 @@ impl<'a> Names<'a> {
 
     /// The table of an identity, if it is called anything.
     pub(crate) fn table(&self, id: u64) -> Option<&'a TableNames> {
-        for table in self.tables {
-            if table.id == id {
-                return Some(table);
-            }
-        }
-        None
+        table_of(self.tables, id)
     }
 
-    /// What one more source is called: a name, with a number where it repeats one.
+    /// What one more source is called: a name, with a number where a source is called so already.
     pub(crate) fn call(&mut self, name: &[u8]) -> Result<Bytes, NoMemory> {
-        let earlier = count_of(self.called.as_slice(), name);
-        let mut base = Bytes::new(self.alloc);
-        base.add(name)?;
-        self.called.push(base)?;
-        numbered(self.alloc, name, earlier)
+        self.called.call(name)
     }
 }

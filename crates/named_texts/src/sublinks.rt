@@ -1,8 +1,8 @@
 //! Writes what stands around the query of a sublink.
 use crate::columns::Seen;
 use crate::expressions::push_part;
-use crate::words::{all_words, any_words};
 use bag_algebra::{Expr, SubKind};
+use clause_texts::{all_text, any_text};
 use expression_texts::Draft;
 use perm_values::NoMemory;
 
@@ -18,8 +18,8 @@ pub(crate) fn push_asking(
     }
     match kind {
         SubKind::Exists => draft.push(b"EXISTS ( "),
-        SubKind::Any(compare) => draft.push(any_words(compare)),
-        SubKind::All(compare) => draft.push(all_words(compare)),
+        SubKind::Any(compare) => draft.push(any_text(compare)),
+        SubKind::All(compare) => draft.push(all_text(compare)),
         SubKind::Scalar => draft.push(b"( "),
     }
 }
