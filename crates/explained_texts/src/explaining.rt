@@ -10,7 +10,7 @@ use crate::plain::simplest_query;
 use crate::reading::read_again;
 use answer_texts::a_text_explains_all_that_means_the_same;
 use bag_algebra::Answer;
-use clause_texts::TableNames;
+use query_texts::TableNames;
 use named_texts::named_text;
 use perm_catalog::Catalog;
 use perm_values::{Bytes, Chars, Copyable, NoMemory};

@@ -1,6 +1,6 @@
 //! What tables are called, and what sources of FROM have been called so far.
 use crate::called::Called;
-use clause_texts::{TableNames, table_of};
+use query_texts::{TableNames, table_of};
 use perm_values::{Bytes, NoMemory};
 use std::alloc::Global;
 

@@ -11,7 +11,7 @@ use crate::sources::{
 };
 use crate::sublinks::push_asking;
 use bag_algebra::{Aggr, Answer, Item, JoinKind, Query, SubKind, Sublink};
-use clause_texts::{TableNames, push_limit, push_ordered, push_set};
+use query_texts::{TableNames, push_limit, push_ordered, push_set};
 use expression_texts::Draft;
 use perm_values::{Bytes, List, NoMemory};
 use std::alloc::Global;

@@ -2,7 +2,7 @@
 use crate::columns::Seen;
 use crate::expressions::push_part;
 use bag_algebra::{Expr, SubKind};
-use clause_texts::{all_text, any_text};
+use query_texts::{all_text, any_text};
 use expression_texts::Draft;
 use perm_values::NoMemory;
 

@@ -15,10 +15,10 @@ use Rattle.bag_algebra.specs.declared.query.Query.{Query}
 use Rattle.bag_algebra.specs.declared.query.Query.TheBlock.{shape-the_row-Sublink-1, hidden-the_row-Sublink-1}
 use Rattle.bag_algebra.specs.declared.query.Query.TheVariants.{Table, Single, Base, Filter, Project, Join, Apply, Union, Intersect, Except, Distinct, Aggregate, Limit, Prov}
 use Rattle.bag_algebra.specs.declared.query.Sublink.{Sublink}
-use Rattle.clause_texts.specs.Chains.{is_chained}
-use Rattle.clause_texts.specs.ClauseTexts.{asked_back, asking_text, beside_joined, beside_lateral, columns_text, condition_text, groups_text, limited_text, projecting_text, set_text, table_text, unread_text, where_text}
-use Rattle.clause_texts.specs.Names.{Naming, deeper, naming, names_of, own}
-use Rattle.clause_texts.specs.declared.tables.TableNames.{TableNames}
+use Rattle.query_texts.specs.clauses.Chains.{is_chained}
+use Rattle.query_texts.specs.clauses.ClauseTexts.{asked_back, asking_text, beside_joined, beside_lateral, columns_text, condition_text, groups_text, limited_text, projecting_text, set_text, table_text, unread_text, where_text}
+use Rattle.query_texts.specs.clauses.Names.{Naming, deeper, naming, names_of, own}
+use Rattle.query_texts.specs.declared.clauses.tables.TableNames.{TableNames}
 use Rattle.expression_texts.proofs.Pieces.{laid2, laid3}
 use Rattle.expression_texts.specs.Words.{is_any}
 use Rattle.query_texts.specs.QueryTexts.{apart_unless, query_bytes, select, sub_text, sub_texts, subs_texts, written}

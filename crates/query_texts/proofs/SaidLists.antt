@@ -10,10 +10,10 @@ use Rattle.bag_algebra.specs.declared.query.Aggr.{Aggr}
 use Rattle.tree_texts.specs.FormPlans as plan
 use Rattle.tree_texts.specs.Forms as f
 use Rattle.tree_texts.specs.Forms.{ExprForm, ColumnForm}
-use Rattle.clause_texts.specs.Names.{Naming, own}
+use Rattle.query_texts.specs.clauses.Names.{Naming, own}
 use Rattle.query_texts.specs.forms.ShownQueries.{own_column, Listed, listed, named_from, aggregated, aggregates_from, argument, arguments, grouped_columns as group_forms}
 use Rattle.query_texts.specs.forms.Pieces.{said, expr_said}
-use Rattle.clause_texts.specs.ClauseTexts.{comma, item_text, unread_text, column_item, named_items, group_items, argument_text, argument_items, aggregated_text, aggregate_items}
+use Rattle.query_texts.specs.clauses.ClauseTexts.{comma, item_text, unread_text, column_item, named_items, group_items, argument_text, argument_items, aggregated_text, aggregate_items}
 use Rattle.expression_texts.specs.Words.{name_text, reference_text}
 use Rattle.query_texts.proofs.SaidExpressions.{expression_said}
 

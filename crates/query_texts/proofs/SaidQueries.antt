@@ -24,15 +24,15 @@ use Rattle.tree_texts.specs.Forms.{ExprForm, FromForm, ConditionForm, CoreForm, 
 use Rattle.tree_texts.specs.Phrases.{maybe_distinct, joining, joining_lateral, grouped, ordered}
 use Rattle.query_texts.specs.QueryTexts as texts
 use Rattle.query_texts.specs.QueryTexts.{Written, written, select, sub_texts, answer_bytes}
-use Rattle.clause_texts.specs.Chains.{is_chained}
-use Rattle.clause_texts.specs.Keys.{all_keys}
-use Rattle.clause_texts.specs.Names.{Naming, naming, own, deeper, names_of, outermost}
+use Rattle.query_texts.specs.clauses.Chains.{is_chained}
+use Rattle.query_texts.specs.clauses.Keys.{all_keys}
+use Rattle.query_texts.specs.clauses.Names.{Naming, naming, own, deeper, names_of, outermost}
 use Rattle.query_texts.specs.forms.ShownExpressions.{shown_expr, beside}
 use Rattle.query_texts.specs.forms.ShownQueries.{own_columns, Listed, listed, one, columns, selected, alone, Chain, sources, just, then_joins, joined_to, source_name, Framed, copied, a_whole, a_select, a_block, apart_unless, of_table, tested_by, projected, joined, stays, in_groups, below_groups, aggregates_from, arguments, grouped_columns, key_form, any_of, all_of, tested_part, asked, framed, sub_forms, called, shown_answer}
-use Rattle.clause_texts.specs.Unused.{used_in, items_use, spare}
-use Rattle.clause_texts.specs.declared.tables.TableNames.{TableNames}
+use Rattle.query_texts.specs.clauses.Unused.{used_in, items_use, spare}
+use Rattle.query_texts.specs.declared.clauses.tables.TableNames.{TableNames}
 use Rattle.query_texts.specs.forms.Pieces.{said, expr_said, query_said}
-use Rattle.clause_texts.specs.ClauseTexts.{as_text, item_text, unread_text, columns_text, named_items, over_text, table_text, beside_text, beside_joined, beside_lateral, source_text, condition_text, where_text, expr_items, projected_text, projecting_text, set_text, below_text, groups_text, any_text, all_text, part_text, asked_text, ordered_text, called_items}
+use Rattle.query_texts.specs.clauses.ClauseTexts.{as_text, item_text, unread_text, columns_text, named_items, over_text, table_text, beside_text, beside_joined, beside_lateral, source_text, condition_text, where_text, expr_items, projected_text, projecting_text, set_text, below_text, groups_text, any_text, all_text, part_text, asked_text, ordered_text, called_items}
 use Rattle.expression_texts.specs.Words.{is_any, name_text, number_text, reference_text}
 use Rattle.query_texts.proofs.SaidClauses.{beside_said, grouped_said, order_said, called_said}
 use Rattle.query_texts.proofs.SaidExpressions.{expression_said}

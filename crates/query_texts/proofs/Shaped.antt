@@ -5,10 +5,10 @@ use Rattle.bag_algebra.specs.built.Patterns.{BaseOf, FilterOf, ProjectOf, JoinOf
 use Rattle.bag_algebra.specs.declared.query.JoinKind.{JoinKind}
 use Rattle.bag_algebra.specs.declared.query.Query.{Query}
 use Rattle.bag_algebra.specs.declared.query.Query.TheVariants.{Table, Single}
-use Rattle.clause_texts.specs.Chains.{is_chained}
-use Rattle.clause_texts.specs.ClauseTexts.{columns_text, over_text}
-use Rattle.clause_texts.specs.Names.{Naming, own}
-use Rattle.clause_texts.specs.declared.tables.TableNames.{TableNames}
+use Rattle.query_texts.specs.clauses.Chains.{is_chained}
+use Rattle.query_texts.specs.clauses.ClauseTexts.{columns_text, over_text}
+use Rattle.query_texts.specs.clauses.Names.{Naming, own}
+use Rattle.query_texts.specs.declared.clauses.tables.TableNames.{TableNames}
 use Rattle.expression_texts.specs.Words.{is_any}
 use Rattle.query_texts.specs.QueryTexts.{Written, a_block, apart_unless, written}
 use Rattle.query_texts.specs.built.Parts.{block_part, over_bytes, select_part}

@@ -1,3 +1,4 @@
 pub mod QueryTexts
 pub mod built
 pub mod forms
+pub mod clauses

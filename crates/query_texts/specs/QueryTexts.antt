@@ -7,10 +7,10 @@ use Rattle.bag_algebra.specs.declared.query.JoinKind.{JoinKind}
 use Rattle.bag_algebra.specs.declared.query.Query.{Query, Row_of-Sublink, more_of-Sublink, end_of-Sublink}
 use Rattle.bag_algebra.specs.declared.query.Query.TheVariants.{Table, Single}
 use Rattle.bag_algebra.specs.declared.query.Sublink.{Sublink}
-use Rattle.clause_texts.specs.Chains.{is_chained}
-use Rattle.clause_texts.specs.ClauseTexts.{asked_text, beside_joined, beside_lateral, called_items, columns_text, condition_text, groups_text, limited_text, ordered_text, over_text, projecting_text, set_text, table_text, unread_text, where_text}
-use Rattle.clause_texts.specs.Names.{Naming, deeper, naming, names_of, outermost, own}
-use Rattle.clause_texts.specs.declared.tables.TableNames.{TableNames}
+use Rattle.query_texts.specs.clauses.Chains.{is_chained}
+use Rattle.query_texts.specs.clauses.ClauseTexts.{asked_text, beside_joined, beside_lateral, called_items, columns_text, condition_text, groups_text, limited_text, ordered_text, over_text, projecting_text, set_text, table_text, unread_text, where_text}
+use Rattle.query_texts.specs.clauses.Names.{Naming, deeper, naming, names_of, outermost, own}
+use Rattle.query_texts.specs.declared.clauses.tables.TableNames.{TableNames}
 use Rattle.expression_texts.specs.Words.{is_any}
 
 -- what a query is written as

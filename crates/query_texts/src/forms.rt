@@ -6,7 +6,7 @@ ghost use Rattle.bag_algebra.specs.declared.query.Query.{Query};
 ghost use Rattle.tree_texts.specs.Texts.{query_text};
 ghost use Rattle.query_texts.specs.forms.ShownQueries.{shown_answer};
 ghost use Rattle.query_texts.specs.QueryTexts.{answer_bytes};
-ghost use Rattle.clause_texts.specs.declared.tables.TableNames.{TableNames};
+ghost use Rattle.query_texts.specs.declared.clauses.tables.TableNames.{TableNames};
 
 /// What is written of a query is the text of its form.
 pub fn a_query_is_written_as_its_form()

@@ -1,16 +1,16 @@
 //! Writes queries: one SELECT for a block of SQL.
 ghost use Rattle.std.specs.Prelude.{◌≡◌, ◌+◌, ◌++◌, IfOk, OnOk};
 ghost use Rattle.bag_algebra.specs.Kinds.{width_of};
-ghost use Rattle.clause_texts.specs.Chains.{is_chained};
-ghost use Rattle.clause_texts.specs.ClauseTexts.{beside_joined, beside_lateral, columns_text, groups_text};
-ghost use Rattle.clause_texts.specs.Frames.{called_in};
-ghost use Rattle.clause_texts.specs.Names.{deeper, naming};
+ghost use Rattle.query_texts.specs.clauses.Chains.{is_chained};
+ghost use Rattle.query_texts.specs.clauses.ClauseTexts.{beside_joined, beside_lateral, columns_text, groups_text};
+ghost use Rattle.query_texts.specs.clauses.Frames.{called_in};
+ghost use Rattle.query_texts.specs.clauses.Names.{deeper, naming};
 ghost use Rattle.query_texts.specs.QueryTexts.{answer_bytes, apart_unless, query_bytes, sub_text, subs_texts, written};
 ghost use Rattle.query_texts.specs.built.Parts.{block_part, over_bytes, select_part};
 
 use crate::shapes::{is_block, is_chain, is_chained, is_select};
 use bag_algebra::{Aggr, Answer, JoinKind, Query, Sublink};
-use clause_texts::{
+use crate::clauses::{
     Frame, TableNames, asked_back, columns_of, deeper, join_text, lateral_text, push_above,
     push_asking, push_below, push_called, push_columns, push_condition, push_grouped,
     push_lateral_source, push_limit, push_ordered, push_projecting, push_set, push_source,

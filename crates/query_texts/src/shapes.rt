@@ -1,7 +1,7 @@
 //! Which queries are written as one SELECT, as a FROM with a WHERE, and as a FROM that joins may follow.
 ghost use Rattle.std.specs.Prelude.{◌≡◌, ◌&&◌};
 ghost use Rattle.bag_algebra.specs.Kinds.{width_of};
-ghost use Rattle.clause_texts.specs.Chains.{is_chained};
+ghost use Rattle.query_texts.specs.clauses.Chains.{is_chained};
 ghost use Rattle.expression_texts.specs.Words.{is_any};
 ghost use Rattle.query_texts.specs.built.Shapes.{is_block, is_chain, is_select};
 

@@ -20,8 +20,8 @@ use Rattle.stored_provenance.specs.Held.{IsHeldTable}
 use Rattle.stored_provenance.specs.Reads.{listed}
 use Rattle.name_meaning.specs.Froms.{named_so}
 use Rattle.name_meaning.specs.Statements.{repeats}
-use Rattle.clause_texts.specs.Names.{has_id, names_of, nameless, table_of}
-use Rattle.clause_texts.specs.declared.tables.TableNames.{TableNames}
+use Rattle.query_texts.specs.clauses.Names.{has_id, names_of, nameless, table_of}
+use Rattle.query_texts.specs.declared.clauses.tables.TableNames.{TableNames}
 use Rattle.sql_printer.specs.answers.ReadAs.{IsNamed}
 use Rattle.sql_printer.specs.Called.{named_under, names_now, tables_named, with_read, with_reads}
 

@@ -9,8 +9,8 @@ use Rattle.perm_catalog.specs.Columns.{column_names}
 use Rattle.perm_catalog.specs.Contents.{Contents}
 use Rattle.perm_catalog.specs.Lookups.{name_of_id}
 use Rattle.perm_catalog.specs.declared.entries.TableEntry.{TableEntry}
-use Rattle.clause_texts.specs.Names.{has_id}
-use Rattle.clause_texts.specs.declared.tables.TableNames.{TableNames}
+use Rattle.query_texts.specs.clauses.Names.{has_id}
+use Rattle.query_texts.specs.declared.clauses.tables.TableNames.{TableNames}
 use Rattle.stored_provenance.specs.Reads.{listed}
 
 -- a table of this identity under a name, with the names of its columns

@@ -10,7 +10,7 @@ ghost use Rattle.bag_algebra.specs.declared.query.Query.{Query};
 ghost use Rattle.perm_catalog.specs.Contents.{Contents};
 ghost use Rattle.sql_tree.specs.declared.query.QueryTree.{QueryTree};
 ghost use Rattle.tree_texts.specs.Trees.{IsQuery};
-ghost use Rattle.clause_texts.specs.declared.tables.TableNames.{TableNames};
+ghost use Rattle.query_texts.specs.declared.clauses.tables.TableNames.{TableNames};
 ghost use Rattle.query_texts.specs.forms.ShownQueries.{shown_answer};
 ghost use Rattle.sql_printer.specs.rows.Printed.{printed_answer};
 ghost use Rattle.sql_printer.specs.rows.Writable.{WritableQuery};

@@ -8,7 +8,7 @@ ghost use Rattle.name_meaning.specs.Cores.{distinct_if};
 ghost use Rattle.name_meaning.specs.Froms.{in_from};
 ghost use Rattle.name_meaning.specs.Meanings.{Around};
 ghost use Rattle.tree_texts.specs.Forms.{QueryForm, no_condition};
-ghost use Rattle.clause_texts.specs.Names.{naming};
+ghost use Rattle.query_texts.specs.clauses.Names.{naming};
 ghost use Rattle.query_texts.specs.forms.ShownQueries.{copied, just};
 ghost use Rattle.sql_printer.specs.rows.Printed.{listed};
 ghost use Rattle.sql_printer.specs.expressions.Scopes.{Few, ScopesAre, marks};

@@ -9,7 +9,7 @@ ghost use Rattle.perm_catalog.specs.Contents.{Contents};
 ghost use Rattle.name_meaning.specs.Froms.{in_from};
 ghost use Rattle.name_meaning.specs.Meanings.{Around};
 ghost use Rattle.tree_texts.specs.Forms.{QueryForm, no_condition};
-ghost use Rattle.clause_texts.specs.Names.{naming};
+ghost use Rattle.query_texts.specs.clauses.Names.{naming};
 ghost use Rattle.query_texts.specs.forms.ShownQueries as writing;
 ghost use Rattle.sql_printer.specs.rows.Printed as printing;
 ghost use Rattle.sql_printer.specs.rows.Writable.{WritableAggregates};

@@ -6,12 +6,12 @@ ghost use Rattle.std.specs.List.{list_any};
 ghost use Rattle.bag_algebra.specs.Inputs.{given};
 ghost use Rattle.bag_algebra.specs.TablesRead.{tables_read};
 ghost use Rattle.perm_catalog.specs.Columns.{column_names};
-ghost use Rattle.clause_texts.specs.Names.{has_id};
+ghost use Rattle.query_texts.specs.clauses.Names.{has_id};
 ghost use Rattle.stored_provenance.specs.Reads.{inputs_read, sublinks_read};
 ghost use Rattle.sql_printer.specs.Called.{named_under, names_now, tables_named, with_read, with_reads};
 
 use bag_algebra::{Inputs, Query, Sublink};
-use clause_texts::TableNames;
+use query_texts::TableNames;
 use perm_catalog::{Catalog, Column, TableEntry};
 use perm_values::{Chars, Copyable, List, NoMemory};
 use std::alloc::Global;

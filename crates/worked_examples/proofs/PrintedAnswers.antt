@@ -27,7 +27,7 @@ use Rattle.perm_catalog.specs.declared.column.Column.{Column}
 use Rattle.sql_tree.specs.declared.query.QueryTree.{QueryTree}
 use Rattle.name_meaning.specs.Statements.{query_meant}
 use Rattle.name_meaning.proofs.Equations.{tree_equations, token-given}
-use Rattle.clause_texts.specs.declared.tables.TableNames.{TableNames}
+use Rattle.query_texts.specs.declared.clauses.tables.TableNames.{TableNames}
 use Rattle.query_texts.specs.forms.ShownQueries.{shown_answer}
 use Rattle.sql_printer.specs.rows.Printed.{printed_answer}
 use Rattle.answer_texts.specs.Explains.{read_as}

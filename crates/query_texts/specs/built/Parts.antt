@@ -4,9 +4,9 @@ use Rattle.bag_algebra.specs.Kinds.{kinds_of, width_of}
 use Rattle.bag_algebra.specs.built.Patterns.{BaseOf, FilterOf, ProjectOf, JoinOf, ApplyOf, UnionOf, IntersectOf, ExceptOf, DistinctOf, AggregateOf, LimitOf, ProvOf}
 use Rattle.bag_algebra.specs.declared.query.Query.{Query}
 use Rattle.bag_algebra.specs.declared.query.Query.TheVariants.{Table, Single}
-use Rattle.clause_texts.specs.ClauseTexts.{columns_text, condition_text, over_text}
-use Rattle.clause_texts.specs.Names.{Naming, own}
-use Rattle.clause_texts.specs.declared.tables.TableNames.{TableNames}
+use Rattle.query_texts.specs.clauses.ClauseTexts.{columns_text, condition_text, over_text}
+use Rattle.query_texts.specs.clauses.Names.{Naming, own}
+use Rattle.query_texts.specs.declared.clauses.tables.TableNames.{TableNames}
 use Rattle.query_texts.specs.QueryTexts.{join_block, sub_texts, written}
 
 module _ (tables : List TableNames) (prefix : List ℕ) where

@@ -4,7 +4,7 @@ use Rattle.bag_algebra.specs.Kinds.{width_of}
 use Rattle.bag_algebra.specs.built.Patterns.{BaseOf, FilterOf, ProjectOf, JoinOf, ApplyOf, UnionOf, IntersectOf, ExceptOf, DistinctOf, AggregateOf, LimitOf, ProvOf}
 use Rattle.bag_algebra.specs.declared.query.Query.{Query}
 use Rattle.bag_algebra.specs.declared.query.Query.TheVariants.{Table, Single}
-use Rattle.clause_texts.specs.Chains.{is_chained}
+use Rattle.query_texts.specs.clauses.Chains.{is_chained}
 use Rattle.expression_texts.specs.Words.{is_any}
 
 -- one SELECT without groups that gives the columns, so that DISTINCT may stand in it

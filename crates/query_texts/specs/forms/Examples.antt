@@ -18,10 +18,10 @@ use Rattle.bag_algebra.specs.declared.query.Query.{Query, more_of-Sublink, end_o
 use Rattle.bag_algebra.specs.declared.query.Query.TheVariants.{Table, Single}
 use Rattle.bag_algebra.specs.declared.query.SubKind.TheVariants as ask
 use Rattle.tree_texts.specs.Texts.{expr_text, query_text, script_text}
-use Rattle.clause_texts.specs.Names.{own, outermost}
+use Rattle.query_texts.specs.clauses.Names.{own, outermost}
 use Rattle.query_texts.specs.forms.ShownExpressions.{shown_expr}
 use Rattle.query_texts.specs.forms.ShownQueries.{shown, shown_answer}
-use Rattle.clause_texts.specs.declared.tables.TableNames.{TableNames}
+use Rattle.query_texts.specs.declared.clauses.tables.TableNames.{TableNames}
 
 -- ---- words of the examples
 

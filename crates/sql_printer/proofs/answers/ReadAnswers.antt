@@ -21,8 +21,8 @@ use Rattle.name_meaning.specs.Statements.{alone, columns_of, query_meant}
 use Rattle.name_meaning.specs.Trees.{item_of}
 use Rattle.name_meaning.specs.declared.scope.Scope.{Scope}
 use Rattle.tree_texts.specs.Trees.{AreItems, IsCore, IsQuery, an_item_tree, no_item_trees}
-use Rattle.clause_texts.specs.Names.{outermost}
-use Rattle.clause_texts.specs.declared.tables.TableNames.{TableNames}
+use Rattle.query_texts.specs.clauses.Names.{outermost}
+use Rattle.query_texts.specs.declared.clauses.tables.TableNames.{TableNames}
 use Rattle.query_texts.specs.forms.ShownQueries.{Framed, called, called_from, framed, selected, shown_answer, sources}
 use Rattle.sql_printer.specs.rows.Printed.{Readings, columns_from, or_unread, printed_answer, readings, unread_item}
 use Rattle.sql_printer.specs.rows.PrintedExpressions.{before}

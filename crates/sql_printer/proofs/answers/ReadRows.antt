@@ -28,8 +28,8 @@ use Rattle.perm_catalog.specs.declared.entries.TableEntry.{TableEntry}
 use Rattle.sql_tree.specs.declared.query.QueryTree.{QueryTree}
 use Rattle.name_meaning.specs.Froms.{table_plain}
 use Rattle.answer_texts.specs.Explains.{GivesTables, MeansTheSame, read_as}
-use Rattle.clause_texts.specs.Names.{names_of as table_names}
-use Rattle.clause_texts.specs.declared.tables.TableNames.{TableNames}
+use Rattle.query_texts.specs.clauses.Names.{names_of as table_names}
+use Rattle.query_texts.specs.declared.clauses.tables.TableNames.{TableNames}
 use Rattle.sql_printer.proofs.rows.ShownQueries.{answer-read as rows-read}
 use Rattle.sql_printer.specs.rows.Carried.{IsGiven}
 use Rattle.sql_printer.specs.rows.Printed.{printed_answer}

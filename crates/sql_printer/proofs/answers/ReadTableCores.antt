@@ -26,8 +26,8 @@ use Rattle.name_meaning.specs.Trees.{from_item_of, from_of, item_of, source_of}
 use Rattle.name_meaning.specs.declared.scope.Scope.{Scope}
 use Rattle.tree_texts.specs.Forms as f
 use Rattle.tree_texts.specs.Trees.{AreItems, AreSources, IsCore, IsItem, an_item_tree, no_item_trees, no_join_trees, source_trees, table_tree}
-use Rattle.clause_texts.specs.Names.{names_of, naming}
-use Rattle.clause_texts.specs.declared.tables.TableNames.{TableNames}
+use Rattle.query_texts.specs.clauses.Names.{names_of, naming}
+use Rattle.query_texts.specs.declared.clauses.tables.TableNames.{TableNames}
 use Rattle.query_texts.specs.forms.ShownQueries.{listed, of_table, one, selected}
 use Rattle.sql_printer.specs.rows.Printed.{columns_from, listed as given_of, or_unread, unread_item}
 use Rattle.sql_printer.specs.rows.PrintedExpressions.{integer}

@@ -24,11 +24,11 @@ use Rattle.name_meaning.specs.Trees.{from_of, item_of}
 use Rattle.tree_texts.specs.Forms as f
 use Rattle.tree_texts.specs.Forms.{ExprForm}
 use Rattle.tree_texts.specs.Trees.{AreSources, IsCore, no_source_trees}
-use Rattle.clause_texts.specs.Chains.{is_chained}
-use Rattle.clause_texts.specs.Keys.{all_keys}
-use Rattle.clause_texts.specs.Names.{deeper, names_of, naming, own as own_naming}
-use Rattle.clause_texts.specs.Unused.{items_use, spare}
-use Rattle.clause_texts.specs.declared.tables.TableNames.{TableNames}
+use Rattle.query_texts.specs.clauses.Chains.{is_chained}
+use Rattle.query_texts.specs.clauses.Keys.{all_keys}
+use Rattle.query_texts.specs.clauses.Names.{deeper, names_of, naming, own as own_naming}
+use Rattle.query_texts.specs.clauses.Unused.{items_use, spare}
+use Rattle.query_texts.specs.declared.clauses.tables.TableNames.{TableNames}
 use Rattle.expression_texts.specs.Words.{is_any}
 use Rattle.query_texts.specs.forms.ShownQueries as writing
 use Rattle.query_texts.specs.forms.ShownQueries.{Framed, framed, joined, joined_to, listed, of_table, one, projected, selected, shown, source_name, sources, sub_forms, tested_by, tested_part}

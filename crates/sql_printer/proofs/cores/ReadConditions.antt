@@ -21,7 +21,7 @@ use Rattle.name_meaning.specs.declared.need.Need.TheVariants.{Alike as alike}
 use Rattle.tree_texts.specs.Forms as f
 use Rattle.tree_texts.specs.Forms.{ExprForm}
 use Rattle.tree_texts.specs.Trees.{IsExpr}
-use Rattle.clause_texts.specs.Unused.{spare, used_in}
+use Rattle.query_texts.specs.clauses.Unused.{spare, used_in}
 use Rattle.query_texts.specs.forms.ShownExpressions.{never_arms, shown_expr, beside as shown_beside}
 use Rattle.query_texts.specs.forms.ShownQueries.{tested_by}
 use Rattle.sql_printer.specs.rows.Printed.{condition_subs, idle, idle_in, nothing_asked, printed_condition, taken}

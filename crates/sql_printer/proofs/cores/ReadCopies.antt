@@ -13,7 +13,7 @@ use Rattle.name_meaning.specs.declared.scope.Scope.{Scope}
 use Rattle.tree_texts.specs.Forms as f
 use Rattle.tree_texts.specs.Forms.{ExprForm}
 use Rattle.tree_texts.specs.Trees.{AreItems, IsItem, an_item_tree, no_item_trees}
-use Rattle.clause_texts.specs.Names.{naming}
+use Rattle.query_texts.specs.clauses.Names.{naming}
 use Rattle.query_texts.specs.forms.ShownQueries.{columns, listed, named_from, one, own_column}
 use Rattle.sql_printer.specs.rows.Printed.{columns_from, or_unread, unread_item}
 use Rattle.sql_printer.specs.rows.PrintedExpressions.{before, integer}

@@ -14,8 +14,8 @@ use Rattle.name_meaning.specs.Trees.{item_of, part_of}
 use Rattle.name_meaning.specs.declared.scope.Scope.{Scope}
 use Rattle.tree_texts.specs.Forms.{ExprForm}
 use Rattle.tree_texts.specs.Trees.{AreItems, IsExpr, IsItem, an_item_tree, no_item_trees}
-use Rattle.clause_texts.specs.Names.{naming}
-use Rattle.clause_texts.specs.Unused.{items_use, spare}
+use Rattle.query_texts.specs.clauses.Names.{naming}
+use Rattle.query_texts.specs.clauses.Unused.{items_use, spare}
 use Rattle.query_texts.specs.forms.ShownExpressions.{shown_expr, beside as shown_beside}
 use Rattle.query_texts.specs.forms.ShownQueries.{named_from, one, projected}
 use Rattle.sql_printer.specs.rows.Printed.{asked_by, first_beside, idle, printed_items, taken}

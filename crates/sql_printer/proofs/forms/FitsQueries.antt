@@ -22,11 +22,11 @@ use Rattle.perm_values.specs.declared.kind.Kind.{Kind}
 use Rattle.tree_texts.specs.Fits.{FitsColumn, FitsCondition, FitsCore, FitsExpr, FitsFrom, FitsItems, FitsJoins, FitsKey, FitsQuery}
 use Rattle.tree_texts.specs.Forms as f
 use Rattle.tree_texts.specs.Forms.{ConditionForm, CoreForm, ExprForm, JoinForms, QueryForm}
-use Rattle.clause_texts.specs.Chains.{is_chained}
-use Rattle.clause_texts.specs.Keys.{all_keys}
-use Rattle.clause_texts.specs.Names.{Naming, deeper, has_id, names_of, nameless, naming, outermost, own, source_prefix}
-use Rattle.clause_texts.specs.Unused.{items_use, spare, used_in}
-use Rattle.clause_texts.specs.declared.tables.TableNames.{TableNames}
+use Rattle.query_texts.specs.clauses.Chains.{is_chained}
+use Rattle.query_texts.specs.clauses.Keys.{all_keys}
+use Rattle.query_texts.specs.clauses.Names.{Naming, deeper, has_id, names_of, nameless, naming, outermost, own, source_prefix}
+use Rattle.query_texts.specs.clauses.Unused.{items_use, spare, used_in}
+use Rattle.query_texts.specs.declared.clauses.tables.TableNames.{TableNames}
 use Rattle.expression_texts.specs.Words.{is_any}
 use Rattle.query_texts.specs.forms.ShownExpressions.{beside, shown_expr}
 use Rattle.query_texts.specs.forms.ShownQueries.{Chain, Framed, Listed, a_block, a_select, a_whole, aggregated, aggregates_from, alone, argument, arguments, apart_unless, below_groups, called, called_from, columns, copied, framed, grouped_columns, in_groups, joined, joined_to, just, key_form, listed, named_from, of_table, one, own_column, projected, selected, shown, shown_answer, source_name, sources, stays, sub_forms, tested_by, tested_part, then_joins}

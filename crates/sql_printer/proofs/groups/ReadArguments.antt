@@ -18,7 +18,7 @@ use Rattle.name_meaning.specs.Trees.{item_of, part_of}
 use Rattle.name_meaning.specs.declared.scope.Scope.{Scope}
 use Rattle.tree_texts.specs.Forms.{ExprForm}
 use Rattle.tree_texts.specs.Trees.{AreItems, IsExpr, IsItem, an_item_tree, no_item_trees}
-use Rattle.clause_texts.specs.Names.{naming}
+use Rattle.query_texts.specs.clauses.Names.{naming}
 use Rattle.query_texts.specs.forms.ShownExpressions.{shown_expr}
 use Rattle.query_texts.specs.forms.ShownQueries as writing
 use Rattle.query_texts.specs.forms.ShownQueries.{listed, named_from, one}

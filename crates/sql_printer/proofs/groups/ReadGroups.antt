@@ -40,7 +40,7 @@ use Rattle.name_meaning.specs.declared.scope.Scope.{Scope}
 use Rattle.tree_texts.specs.Forms as f
 use Rattle.tree_texts.specs.Forms.{ColumnForm, ConditionForm, ExprForm}
 use Rattle.tree_texts.specs.Trees.{AreColumns, AreItems, IsCore, IsExpr, IsItem, IsQuery, a_column_tree, an_item_tree, bare_tree, count_distinct_tree, count_rows_tree, count_tree, folded_tree, item_tree, no_column_trees, no_item_trees}
-use Rattle.clause_texts.specs.Names.{naming, own as own_naming, source_prefix}
+use Rattle.query_texts.specs.clauses.Names.{naming, own as own_naming, source_prefix}
 use Rattle.query_texts.specs.forms.ShownQueries as writing
 use Rattle.query_texts.specs.forms.ShownQueries.{Chain, Listed, below_groups, listed, named_from, one, own_column, own_columns, selected}
 use Rattle.sql_printer.specs.rows.Printed as printing

@@ -4,7 +4,7 @@ use Rattle.std.proofs.lemmas.List.Elements.{All-append, All-cons, All-nil}
 use Rattle.std.specs.List.{range_with_len}
 use Rattle.perm_values.specs.Rows.{KeysWithin}
 use Rattle.perm_values.specs.declared.key.Key.{Key}
-use Rattle.clause_texts.specs.Keys.{all_keys, at_place, is_key, other_keys, unless_key}
+use Rattle.query_texts.specs.clauses.Keys.{all_keys, at_place, is_key, other_keys, unless_key}
 
 module _ (width : ℕ) where
   abbrev IsWithin : Key → Type 0

@@ -19,7 +19,7 @@ use Rattle.bag_algebra.specs.declared.expr.Item.{Item}
 use Rattle.bag_algebra.specs.declared.query.Query.{Row_of-Sublink, more_of-Sublink, end_of-Sublink}
 use Rattle.bag_algebra.specs.declared.query.Sublink.{Sublink}
 use Rattle.bag_algebra.proofs.Truths.{or_true}
-use Rattle.clause_texts.specs.Unused.{used_in, items_use}
+use Rattle.query_texts.specs.clauses.Unused.{used_in, items_use}
 use Rattle.sql_printer.specs.rows.Carried.{Carries, Answered}
 use Rattle.sql_printer.specs.rows.Printed.{idle, idle_in, nothing_asked, taken, printed_condition, condition_subs, asked_by, printed_items, first_beside}
 use Rattle.sql_printer.specs.rows.PrintedExpressions.{asked_in, integer, printed_expr}

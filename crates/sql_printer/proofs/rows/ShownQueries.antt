@@ -29,9 +29,9 @@ use Rattle.sql_printer.specs.rows.Carried.{Carries, IsGiven}
 use Rattle.sql_printer.specs.rows.Printed.{Readings, a_block, a_select, a_whole, apart_unless, listed, column, columns_from, unread_item, or_unread, unread_of, idle, taken, asked_by, first_beside, printed_items, printed_condition, condition_subs, projected, lateral_kind, arguments, grouped, aggregates_from, or_counted, in_groups, readings, printed, printed_subs, printed_answer}
 use Rattle.sql_printer.specs.rows.PrintedExpressions.{asked_in, printed_expr}
 use Rattle.sql_printer.specs.rows.Writable.{WritableOption, WritableQuery, WritableSubs}
-use Rattle.clause_texts.specs.Chains.{is_chained}
-use Rattle.clause_texts.specs.Keys.{all_keys}
-use Rattle.clause_texts.specs.Unused.{items_use}
+use Rattle.query_texts.specs.clauses.Chains.{is_chained}
+use Rattle.query_texts.specs.clauses.Keys.{all_keys}
+use Rattle.query_texts.specs.clauses.Unused.{items_use}
 use Rattle.expression_texts.specs.Words.{is_any}
 use Rattle.sql_printer.proofs.rows.AskedNumbers.{get-below}
 use Rattle.sql_printer.proofs.rows.ReadSublinks.{answers_of, value-alone, condition-read, items-marked, items-wide}

@@ -13,7 +13,7 @@ use Rattle.perm_values.specs.declared.kind.Kind.{Kind}
 use Rattle.bag_algebra.specs.Bags.{Row, Bag, member, once, without_first, in_both, beyond, union_of, intersect_of, except_of, placed, sorted}
 use Rattle.bag_algebra.specs.Outcome.{Outcome, Good, Bad, mapped, both}
 use Rattle.bag_algebra.specs.WellFormed.{KeysIn}
-use Rattle.clause_texts.specs.Keys.{all_keys, at_place, is_key, other_keys}
+use Rattle.query_texts.specs.clauses.Keys.{all_keys, at_place, is_key, other_keys}
 use Rattle.sql_printer.proofs.rows.MarkedBags.{once-marked, union-marked, intersect-marked, except-marked}
 use Rattle.sql_printer.proofs.rows.RelatedOutcomes.{Along, AlikeOutcomes}
 use Rattle.sql_printer.proofs.rows.ShownRows.{Shown, Wide, WideOutcome, mark, mark-same, marked-alike, wide-marked}

@@ -16,8 +16,8 @@ use Rattle.sql_tree.specs.declared.query.QueryTree.{QueryTree}
 use Rattle.sql_tree.specs.declared.statement.StatementBody.TheVariants.{Select}
 use Rattle.name_meaning.specs.Froms.{table_plain}
 use Rattle.name_meaning.specs.Statements.{name_breaks, repeats}
-use Rattle.clause_texts.specs.Names.{names_of}
-use Rattle.clause_texts.specs.declared.tables.TableNames.{TableNames}
+use Rattle.query_texts.specs.clauses.Names.{names_of}
+use Rattle.query_texts.specs.declared.clauses.tables.TableNames.{TableNames}
 use Rattle.answer_texts.specs.Explains.{read_as}
 pub use Rattle.sql_printer.specs.expressions.Scopes.{Few}
 

@@ -21,9 +21,9 @@ use Rattle.bag_algebra.specs.declared.query.Query.TheVariants.{Table, Single, Fi
 use Rattle.bag_algebra.specs.declared.query.SubKind.TheVariants.{Exists}
 use Rattle.bag_algebra.specs.declared.query.Sublink.{Sublink}
 use Rattle.expression_texts.specs.Words.{is_any}
-use Rattle.clause_texts.specs.Chains.{is_chained}
-use Rattle.clause_texts.specs.Keys.{all_keys}
-use Rattle.clause_texts.specs.Unused.{used_in, items_use, spare}
+use Rattle.query_texts.specs.clauses.Chains.{is_chained}
+use Rattle.query_texts.specs.clauses.Keys.{all_keys}
+use Rattle.query_texts.specs.clauses.Unused.{used_in, items_use, spare}
 use Rattle.sql_printer.specs.rows.PrintedExpressions.{asked_in, integer, printed_expr, beside}
 
 -- ---- columns

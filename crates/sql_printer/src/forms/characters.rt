@@ -3,7 +3,7 @@ ghost use Rattle.std.specs.List.{AllByRecursion};
 ghost use Rattle.std.specs.Str.{IsUtf8};
 ghost use Rattle.sql_printer.specs.forms.Printable.{AreCharacters};
 
-use clause_texts::TableNames;
+use query_texts::TableNames;
 use perm_values::Chars;
 
 /// Looks at names. It takes no memory.

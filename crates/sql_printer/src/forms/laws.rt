@@ -11,7 +11,7 @@ ghost use Rattle.tree_texts.specs.Fits.{FitsQuery};
 ghost use Rattle.tree_texts.specs.FormPlans as plan;
 ghost use Rattle.tree_texts.specs.Forms.{QueryForm};
 ghost use Rattle.tree_texts.specs.layout.Lines.{EndsScript};
-ghost use Rattle.clause_texts.specs.declared.tables.TableNames.{TableNames};
+ghost use Rattle.query_texts.specs.declared.clauses.tables.TableNames.{TableNames};
 ghost use Rattle.query_texts.specs.forms.ShownQueries.{shown_answer};
 ghost use Rattle.sql_printer.specs.forms.EndedTexts.{IsTextOfForm};
 ghost use Rattle.sql_printer.specs.forms.Printable.{AreCharacters, Printable};

@@ -4,9 +4,9 @@ use Rattle.std.proofs.lemmas.List.{take_all}
 use Rattle.bag_algebra.specs.Kinds.{width_of}
 use Rattle.bag_algebra.specs.built.Openings.{Aggregate-is, Base-is, Distinct-is, Except-is, Intersect-is, Limit-is, Project_with-is, Prov-is, Union-is}
 use Rattle.bag_algebra.specs.declared.query.Query.TheVariants.{Aggregate, Apply, Base, Distinct, Except, Filter, Intersect, Join, Limit, Project, Prov, Single, Table, Union}
-use Rattle.clause_texts.specs.ClauseTexts.{above_text, below_text, columns_text, grouped_text, join_text, lateral_on, lateral_text, source_text}
-use Rattle.clause_texts.specs.Frames.{called_in}
-use Rattle.clause_texts.specs.Names.{deeper, naming}
+use Rattle.query_texts.specs.clauses.ClauseTexts.{above_text, below_text, columns_text, grouped_text, join_text, lateral_on, lateral_text, source_text}
+use Rattle.query_texts.specs.clauses.Frames.{called_in}
+use Rattle.query_texts.specs.clauses.Names.{deeper, naming}
 use Rattle.expression_texts.proofs.Pieces.{laid2, laid3, laid4, laid6, mapped_next, when-ok}
 use Rattle.query_texts.specs.QueryTexts.{query_bytes, sub_text, subs_texts, written}
 use Rattle.query_texts.specs.built.Parts.{block_part, over_bytes, select_part}
