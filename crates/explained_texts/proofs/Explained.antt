@@ -1,6 +1,6 @@
 -- What is printed for an answer explains it.
 use Rattle.std.proofs.Common.{◌≡◌, ◌∙◌, ℕ, ◌<◌, true, List, [], length, Result, Ok, Err, IfOk, refl, sym, ap, subst}
-use Rattle.answer_texts.specs.Explains.{Explains, GivesTables, MeansTheSame}
+use Rattle.statement_meaning.specs.explains.Explains.{Explains, GivesTables, MeansTheSame}
 use Rattle.bag_algebra.proofs.TablesRead.{each_table-kept, reads_among-each}
 use Rattle.bag_algebra.specs.Fits.{TablesFit, bag_fits}
 use Rattle.bag_algebra.specs.Kinds.{kinds_of, width_of}

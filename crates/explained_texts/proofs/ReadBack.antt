@@ -4,7 +4,7 @@ use Rattle.std.specs.Prelude.{codes}
 use Rattle.std.specs.Cmp.Lexicographic.{same_text}
 use Rattle.std.specs.List.{ends_with, list_all}
 use Rattle.std.proofs.lemmas.List.{take-append-drop}
-use Rattle.answer_texts.specs.Explains.{Explains, MeansTheSame, is_plain_word, one_select, read_as}
+use Rattle.statement_meaning.specs.explains.Explains.{Explains, MeansTheSame, is_plain_word, one_select, read_as}
 use Rattle.bag_algebra.specs.declared.query.Answer.{Answer}
 use Rattle.explained_texts.specs.Reading.{IsPlainText, OnlyQuery, PlainText, ReadAgain, SaidOf, explain_of}
 use Rattle.name_meaning.specs.Meanings.{is_whole}

@@ -1,7 +1,7 @@
 -- What a text is read as, when it is to explain what another does.
 use Rattle.std.specs.Prelude.{◌≡◌, ℕ, true, List, [], ◌∷◌, ◌++◌, Option, Some, None, codes}
 use Rattle.std.specs.List.{list_all}
-use Rattle.answer_texts.specs.Explains.{Explains, is_plain_word, one_select}
+use Rattle.statement_meaning.specs.explains.Explains.{Explains, is_plain_word, one_select}
 use Rattle.bag_algebra.specs.declared.query.Answer.{Answer}
 use Rattle.name_meaning.specs.declared.answer.Resolved.{Resolved}
 use Rattle.name_meaning.specs.declared.answer.Resolved.TheVariants as r

@@ -1,6 +1,6 @@
 //! Says what an answer means.
 ghost use Rattle.std.specs.Prelude.{IfOk};
-ghost use Rattle.answer_texts.specs.Explains.{Explains};
+ghost use Rattle.statement_meaning.specs.explains.Explains.{Explains};
 ghost use Rattle.perm_catalog.specs.Sound.{IsSound};
 ghost use Rattle.statement_meaning.specs.Ready.{CanExplain};
 ghost use Rattle.explained_texts.specs.Explaining.{StandsFor};
@@ -8,7 +8,7 @@ ghost use Rattle.explained_texts.specs.Reading.{SaysAs};
 
 use crate::plain::simplest_query;
 use crate::reading::read_again;
-use answer_texts::a_text_explains_all_that_means_the_same;
+use statement_meaning::a_text_explains_all_that_means_the_same;
 use bag_algebra::Answer;
 use query_texts::TableNames;
 use named_texts::named_text;

@@ -1,13 +1,13 @@
 //! Reads a text that was written for people, to see what it means.
 ghost use Rattle.std.specs.Prelude.{◌≡◌, IfOk, [], ◌∷◌};
 ghost use Rattle.std.specs.List.{list_all};
-ghost use Rattle.answer_texts.specs.Explains.{is_plain_word};
+ghost use Rattle.statement_meaning.specs.explains.Explains.{is_plain_word};
 ghost use Rattle.perm_catalog.specs.Sound.{IsSound};
 ghost use Rattle.statement_meaning.specs.Ready.{IsReady};
 ghost use Rattle.explained_texts.specs.Reading.{OnlyQuery, PlainText, ReadAgain, SaidOf};
 
 use crate::explaining::plain_text;
-use answer_texts::a_text_explains_one_meaning;
+use statement_meaning::{a_text_explains_one_meaning, whole_statements_are_ready};
 use name_analysis::resolve;
 use name_meaning::Resolved;
 use name_seen_parts::Refusal;
@@ -18,7 +18,6 @@ use sql_grammar::{Sort, same_sort, sort_of};
 use sql_lexer::{LexError, Token, tokens};
 use sql_parser::{SyntaxError, a_spelled_script_is_regular, script};
 use sql_tree::{Script, Statement, StatementBody};
-use statement_meaning::whole_statements_are_ready;
 use std::alloc::Global;
 
 fn is_plain_word(token: &Token) -> bool

@@ -1,7 +1,7 @@
 -- What a run over a command line and files writes, and why it ends.
 use Rattle.std.specs.Prelude.{◌≡◌, ◌≢◌, ◌⊎◌, ℕ, ◌+◌, List, [], ◌∷◌, ◌++◌, take, Option}
 use Rattle.std.specs.List.{flat_map, sum}
-use Rattle.answer_texts.specs.Explains.{Explains}
+use Rattle.statement_meaning.specs.explains.Explains.{Explains}
 use Rattle.bag_algebra.specs.declared.query.Answer.{Answer}
 use Rattle.run_meaning.specs.words.Requests.{request_of}
 use Rattle.run_meaning.specs.declared.words.wanted.Wanted.{Wanted}

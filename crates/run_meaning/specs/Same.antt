@@ -1,6 +1,6 @@
 -- Runs that differ at most in which fault is named, and by which texts EXPLAIN statements are answered.
 use Rattle.std.specs.Prelude.{◌≡◌, ◌≢◌, ℕ, true, List, [], ◌∷◌}
-use Rattle.answer_texts.specs.Explains.{Explains}
+use Rattle.statement_meaning.specs.explains.Explains.{Explains}
 use Rattle.bag_algebra.specs.Outcome.{Faults, has}
 use Rattle.bag_algebra.specs.declared.query.Answer.{Answer}
 use Rattle.null_logic.specs.declared.run_fault.RunFault.{RunFault}

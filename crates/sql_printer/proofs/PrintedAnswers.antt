@@ -28,7 +28,7 @@ use Rattle.query_texts.specs.forms.ShownQueries.{shown_answer}
 use Rattle.query_texts.proofs.Said.{said_is}
 use Rattle.query_texts.proofs.SaidQueries.{answer_said}
 use Rattle.sql_tree.specs.declared.query.QueryTree.{QueryTree}
-use Rattle.answer_texts.specs.Explains.{Explains, MeansTheSame, read_as}
+use Rattle.statement_meaning.specs.explains.Explains.{Explains, MeansTheSame, read_as}
 use Rattle.sql_printer.specs.rows.Printed.{printed_answer}
 use Rattle.sql_printer.specs.rows.Writable.{WritableQuery}
 use Rattle.sql_printer.specs.forms.Printable.{AreCharacters, Printable}

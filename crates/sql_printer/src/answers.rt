@@ -14,7 +14,7 @@ ghost use Rattle.query_texts.specs.declared.clauses.tables.TableNames.{TableName
 ghost use Rattle.query_texts.specs.forms.ShownQueries.{shown_answer};
 ghost use Rattle.sql_printer.specs.rows.Printed.{printed_answer};
 ghost use Rattle.sql_printer.specs.rows.Writable.{WritableQuery};
-ghost use Rattle.answer_texts.specs.Explains.{MeansTheSame, read_as};
+ghost use Rattle.statement_meaning.specs.explains.Explains.{MeansTheSame, read_as};
 ghost use Rattle.sql_printer.specs.answers.ReadAs.{Few, IsNamed, IsReadAs, Narrow, source_in};
 
 /// Over a catalog that has its tables under their names, the tree of an answer's form breaks no

@@ -1,6 +1,6 @@
 //! Prints the answer of a query as SQL.
 ghost use Rattle.std.specs.Prelude.{IfOk, IsTrue};
-ghost use Rattle.answer_texts.specs.Explains.{Explains};
+ghost use Rattle.statement_meaning.specs.explains.Explains.{Explains};
 ghost use Rattle.bag_algebra.specs.Rewriting.{is_plain};
 ghost use Rattle.bag_algebra.specs.TablesRead.{EachTable};
 ghost use Rattle.perm_catalog.specs.Sound.{IsSound, IsSoundAnswer};

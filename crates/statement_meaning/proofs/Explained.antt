@@ -1,7 +1,7 @@
 -- What becomes of an EXPLAIN that breaks no rule.
 use Rattle.std.proofs.Common.{◌≡◌, ◌∙◌, ℕ, List, [], ◌∷◌, Ok, Err, refl, ap, subst}
 use Rattle.bag_algebra.specs.declared.query.Answer.{Answer}
-use Rattle.answer_texts.specs.Explains.{Explains}
+use Rattle.statement_meaning.specs.explains.Explains.{Explains}
 use Rattle.perm_catalog.specs.Contents.{Contents}
 use Rattle.sql_tree.specs.declared.statement.Statement.{Statement}
 use Rattle.name_meaning.specs.Statements.{breaks, resolved}

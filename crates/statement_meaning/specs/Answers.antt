@@ -1,6 +1,6 @@
 -- What a call answers that carries a statement out.
 use Rattle.std.specs.Prelude.{◌≡◌, ℕ, ◌<◌, Bool, true, false, List, Option, Result, Ok, Err, IsTrue}
-use Rattle.answer_texts.specs.Explains.{Explains}
+use Rattle.statement_meaning.specs.explains.Explains.{Explains}
 use Rattle.bag_algebra.specs.Outcome.{Faults, has}
 use Rattle.bag_algebra.specs.declared.query.Answer.{Answer}
 use Rattle.csv_tables.specs.declared.data_error.DataError.TheVariants as broken_rule

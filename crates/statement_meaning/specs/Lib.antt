@@ -4,3 +4,4 @@ pub mod Carrying
 pub mod Ready
 pub mod Turns
 pub mod laws
+pub mod explains

@@ -1,10 +1,12 @@
 //! What becomes of a statement: its text and what the catalog holds then, or why it is refused.
 #![tactic(auto)]
 
+mod explains;
 mod laws;
 mod limits;
 mod refusal;
 
+pub use explains::{a_text_explains_all_that_means_the_same, a_text_explains_one_meaning};
 pub use laws::{
     a_plain_answer_is_its_rows, a_query_changes_nothing, a_refused_statement_changes_nothing,
     a_stored_query_is_fresh, a_written_table_stores_nothing,

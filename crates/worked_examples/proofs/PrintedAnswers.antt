@@ -30,7 +30,7 @@ use Rattle.name_meaning.proofs.Equations.{tree_equations, token-given}
 use Rattle.query_texts.specs.declared.clauses.tables.TableNames.{TableNames}
 use Rattle.query_texts.specs.forms.ShownQueries.{shown_answer}
 use Rattle.sql_printer.specs.rows.Printed.{printed_answer}
-use Rattle.answer_texts.specs.Explains.{read_as}
+use Rattle.statement_meaning.specs.explains.Explains.{read_as}
 use Rattle.sql_printer.specs.answers.ReadAs.{source_in}
 use Rattle.worked_examples.specs.FormTrees.{query_tree}
 

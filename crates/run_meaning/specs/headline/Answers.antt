@@ -1,7 +1,7 @@
 -- What a query that is met answers, without the word PROVENANCE and with it, what CREATE TABLE AS stores, and what IMPACT and EXPLAIN
 -- REWRITE answer.
 use Rattle.std.specs.Prelude.{◌≡◌, ◌≢◌, ◌↔◌, ℕ, Bool, true, List, [], ◌++◌, length, take, codes, Option, Some, IsTrue}
-use Rattle.answer_texts.specs.Explains.{Explains}
+use Rattle.statement_meaning.specs.explains.Explains.{Explains}
 use Rattle.bag_algebra.specs.Bags.{Row, Bag, member}
 use Rattle.bag_algebra.specs.Kinds.{width_of}
 use Rattle.bag_algebra.specs.Meaning.{meaning}

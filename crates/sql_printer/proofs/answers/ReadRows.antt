@@ -27,7 +27,7 @@ use Rattle.perm_catalog.specs.declared.entries.Mark.{Mark}
 use Rattle.perm_catalog.specs.declared.entries.TableEntry.{TableEntry}
 use Rattle.sql_tree.specs.declared.query.QueryTree.{QueryTree}
 use Rattle.name_meaning.specs.Froms.{table_plain}
-use Rattle.answer_texts.specs.Explains.{GivesTables, MeansTheSame, read_as}
+use Rattle.statement_meaning.specs.explains.Explains.{GivesTables, MeansTheSame, read_as}
 use Rattle.query_texts.specs.clauses.Names.{names_of as table_names}
 use Rattle.query_texts.specs.declared.clauses.tables.TableNames.{TableNames}
 use Rattle.sql_printer.proofs.rows.ShownQueries.{answer-read as rows-read}

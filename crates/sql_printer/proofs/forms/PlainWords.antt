@@ -26,7 +26,7 @@ use Rattle.tree_texts.specs.Forms.{ColumnForm, Additive, Multiplicative, Folded,
 use Rattle.tree_texts.specs.Phrases.{maybe_not, maybe_all, maybe_distinct, direction, comparison, truth_word, additive, multiplicative, folding, uniting, joining, kind_word, reference_to, group_column, more_groups, grouped, truth_literal, more_keys, ordered, limited}
 use Rattle.tree_texts.specs.Standing.{Places, Span, at_span, standing}
 use Rattle.tree_texts.specs.Texts.{script}
-use Rattle.answer_texts.specs.Explains.{is_plain_word}
+use Rattle.statement_meaning.specs.explains.Explains.{is_plain_word}
 
 -- ---- plans without these words
 

@@ -18,7 +18,7 @@ use Rattle.name_meaning.specs.Froms.{table_plain}
 use Rattle.name_meaning.specs.Statements.{name_breaks, repeats}
 use Rattle.query_texts.specs.clauses.Names.{names_of}
 use Rattle.query_texts.specs.declared.clauses.tables.TableNames.{TableNames}
-use Rattle.answer_texts.specs.Explains.{read_as}
+use Rattle.statement_meaning.specs.explains.Explains.{read_as}
 pub use Rattle.sql_printer.specs.expressions.Scopes.{Few}
 
 -- what the name of the table of an identity stands for

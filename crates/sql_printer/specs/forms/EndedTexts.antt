@@ -6,7 +6,7 @@ use Rattle.sql_parser.specs.Texts.{IsTextOf}
 use Rattle.sql_tree.specs.declared.query.QueryTree.{QueryTree}
 use Rattle.tree_texts.specs.Forms.{QueryForm}
 use Rattle.tree_texts.specs.Trees.{IsQuery}
-use Rattle.answer_texts.specs.Explains.{is_plain_word, one_select}
+use Rattle.statement_meaning.specs.explains.Explains.{is_plain_word, one_select}
 
 -- the text is one query of the form, without the words PROVENANCE and BASERELATION
 pub record IsTextOfForm (form : QueryForm) (text : List ℕ) : Type 0 where

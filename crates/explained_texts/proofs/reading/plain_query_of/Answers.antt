@@ -1,7 +1,7 @@
 use Rattle.std.proofs.Common.{◌∙◌, ap, sym}
 use Rattle.std.specs.Prelude.{codes}
 use Rattle.std.specs.List.{list_all}
-use Rattle.answer_texts.specs.Explains.{is_plain_word}
+use Rattle.statement_meaning.specs.explains.Explains.{is_plain_word}
 use Rattle.explained_texts.proofs.ReadBack.{ended-by, plain-text}
 use Rattle.explained_texts.proofs.reading.plain_query_of.Goals as goal
 

@@ -1,6 +1,6 @@
 //! Each law is the contract of a function that does nothing.
 ghost use Rattle.std.specs.Prelude.{◌≡◌, ◌↔◌, ℕ, true, List, [], ◌∷◌, ◌++◌, length, take, Option, Result, Ok, Err};
-ghost use Rattle.answer_texts.specs.Explains.{Explains};
+ghost use Rattle.statement_meaning.specs.explains.Explains.{Explains};
 ghost use Rattle.bag_algebra.specs.Bags.{Row, Bag};
 ghost use Rattle.bag_algebra.specs.Kinds.{width_of};
 ghost use Rattle.bag_algebra.specs.Meaning.{Database, meaning, witnesses};

@@ -1,6 +1,6 @@
-use Rattle.answer_texts.specs.Explains.{read_as}
-use Rattle.answer_texts.proofs.SameMeanings.{same-trans}
-use Rattle.answer_texts.proofs.laws.a_text_explains_all_that_means_the_same.Goals as goal
+use Rattle.statement_meaning.specs.explains.Explains.{read_as}
+use Rattle.statement_meaning.proofs.explains.SameMeanings.{same-trans}
+use Rattle.statement_meaning.proofs.explains.a_text_explains_all_that_means_the_same.Goals as goal
 
 pub returns : goal.returns
 returns c = λ contents answer other text same explains. record {

@@ -20,7 +20,7 @@ use Rattle.bag_algebra.specs.Rewriting.{SameRows}
 use Rattle.bag_algebra.specs.declared.query.Answer.{Answer}
 use Rattle.bag_algebra.proofs.BagLaws.{same_bag-sym, same_bag-trans}
 use Rattle.perm_catalog.specs.Contents.{Contents}
-use Rattle.answer_texts.specs.Explains.{MeansTheSame, one_select}
+use Rattle.statement_meaning.specs.explains.Explains.{MeansTheSame, one_select}
 
 same_rows-sym : (a b : Outcome Bag) → SameRows a b → SameRows b a
 same_rows-sym (Good us) (Good vs) s = same_bag-sym us vs s

@@ -1,7 +1,7 @@
 use Rattle.std.proofs.Common.{subst}
-use Rattle.answer_texts.specs.Explains.{MeansTheSame, read_as}
-use Rattle.answer_texts.proofs.SameMeanings.{same-sym, same-trans, one_query}
-use Rattle.answer_texts.proofs.laws.a_text_explains_one_meaning.Goals as goal
+use Rattle.statement_meaning.specs.explains.Explains.{MeansTheSame, read_as}
+use Rattle.statement_meaning.proofs.explains.SameMeanings.{same-sym, same-trans, one_query}
+use Rattle.statement_meaning.proofs.explains.a_text_explains_one_meaning.Goals as goal
 
 pub returns : goal.returns
 returns c = λ contents answer other text a b.
