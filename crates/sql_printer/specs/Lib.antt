@@ -5,3 +5,4 @@ pub mod expressions
 pub mod cores
 pub mod groups
 pub mod answers
+pub mod explained

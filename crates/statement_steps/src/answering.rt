@@ -10,7 +10,7 @@ use crate::changes::{NewTable, store_answer};
 use crate::runner::Runner;
 use bag_algebra::Answer;
 use csv_tables::answer_text;
-use explained_texts::plain_query;
+use sql_printer::plain_query;
 use perm_catalog::Catalog;
 use perm_values::{Bytes, Chars};
 use row_values::ExecError;

@@ -15,7 +15,7 @@ use crate::changes::{
 use crate::fresh::show_fresh;
 use crate::losing::impact;
 use crate::runner::Runner;
-use explained_texts::explain;
+use sql_printer::explain;
 use name_meaning::Resolved;
 use perm_catalog::Catalog;
 use perm_io::Files;

@@ -1,9 +1,0 @@
-//! Says what an answer means as SQL that people can follow.
-#![tactic(auto)]
-
-mod explaining;
-mod plain;
-mod reading;
-
-pub use explaining::explain;
-pub use plain::plain_query;
