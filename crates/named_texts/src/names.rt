@@ -1,7 +1,7 @@
 //! What tables are called, and what sources of FROM have been called so far.
 use crate::called::Called;
-use query_texts::{TableNames, table_of};
 use perm_values::{Bytes, NoMemory};
+use query_texts::{TableNames, table_of};
 use std::alloc::Global;
 
 /// What tables are called, and what the sources of a text were called so far.

@@ -8,14 +8,14 @@ ghost use Rattle.query_texts.specs.clauses.Names.{deeper, naming};
 ghost use Rattle.query_texts.specs.QueryTexts.{answer_bytes, apart_unless, query_bytes, sub_text, subs_texts, written};
 ghost use Rattle.query_texts.specs.built.Parts.{block_part, over_bytes, select_part};
 
-use crate::shapes::{is_block, is_chain, is_chained, is_select};
-use bag_algebra::{Aggr, Answer, JoinKind, Query, Sublink};
 use crate::clauses::{
     Frame, TableNames, asked_back, columns_of, deeper, join_text, lateral_text, push_above,
     push_asking, push_below, push_called, push_columns, push_condition, push_grouped,
     push_lateral_source, push_limit, push_ordered, push_projecting, push_set, push_source,
     push_table, push_unread, push_where,
 };
+use crate::shapes::{is_block, is_chain, is_chained, is_select};
+use bag_algebra::{Aggr, Answer, JoinKind, Query, Sublink};
 use expression_texts::{Draft, behind};
 use perm_values::{Bytes, List, NoMemory};
 use std::alloc::Global;

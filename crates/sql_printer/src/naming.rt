@@ -11,9 +11,9 @@ ghost use Rattle.stored_provenance.specs.Reads.{inputs_read, sublinks_read};
 ghost use Rattle.sql_printer.specs.Called.{named_under, names_now, tables_named, with_read, with_reads};
 
 use bag_algebra::{Inputs, Query, Sublink};
-use query_texts::TableNames;
 use perm_catalog::{Catalog, Column, TableEntry};
 use perm_values::{Chars, Copyable, List, NoMemory};
+use query_texts::TableNames;
 use std::alloc::Global;
 
 /// The names of the tables that the query reads, and of their columns, each table once. It fails only for want of memory.

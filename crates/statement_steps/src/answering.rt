@@ -10,10 +10,10 @@ use crate::changes::{NewTable, store_answer};
 use crate::runner::Runner;
 use bag_algebra::Answer;
 use csv_tables::answer_text;
-use sql_printer::plain_query;
 use perm_catalog::Catalog;
 use perm_values::{Bytes, Chars};
 use row_values::ExecError;
+use sql_printer::plain_query;
 use statement_meaning::StepRefusal;
 use std::alloc::Global;
 

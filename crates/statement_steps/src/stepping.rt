@@ -15,11 +15,11 @@ use crate::changes::{
 use crate::fresh::show_fresh;
 use crate::losing::impact;
 use crate::runner::Runner;
-use sql_printer::explain;
 use name_meaning::Resolved;
 use perm_catalog::Catalog;
 use perm_io::Files;
 use perm_values::Bytes;
+use sql_printer::explain;
 use statement_meaning::StepRefusal;
 use std::alloc::Global;
 

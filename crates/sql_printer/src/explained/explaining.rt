@@ -8,13 +8,13 @@ ghost use Rattle.sql_printer.specs.explained.Reading.{SaysAs};
 
 use crate::explained::plain::simplest_query;
 use crate::explained::reading::read_again;
-use statement_meaning::a_text_explains_all_that_means_the_same;
+use crate::{print, tables_named};
 use bag_algebra::Answer;
-use query_texts::TableNames;
 use named_texts::named_text;
 use perm_catalog::Catalog;
 use perm_values::{Bytes, Chars, Copyable, NoMemory};
-use crate::{print, tables_named};
+use query_texts::TableNames;
+use statement_meaning::a_text_explains_all_that_means_the_same;
 use std::alloc::Global;
 use tree_texts::in_lines;
 

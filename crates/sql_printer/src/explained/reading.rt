@@ -7,7 +7,6 @@ ghost use Rattle.statement_meaning.specs.Ready.{IsReady};
 ghost use Rattle.sql_printer.specs.explained.Reading.{OnlyQuery, PlainText, ReadAgain, SaidOf};
 
 use crate::explained::explaining::plain_text;
-use statement_meaning::{a_text_explains_one_meaning, whole_statements_are_ready};
 use name_analysis::resolve;
 use name_meaning::Resolved;
 use name_seen_parts::Refusal;
@@ -18,6 +17,7 @@ use sql_grammar::{Sort, same_sort, sort_of};
 use sql_lexer::{LexError, Token, tokens};
 use sql_parser::{SyntaxError, a_spelled_script_is_regular, script};
 use sql_tree::{Script, Statement, StatementBody};
+use statement_meaning::{a_text_explains_one_meaning, whole_statements_are_ready};
 use std::alloc::Global;
 
 fn is_plain_word(token: &Token) -> bool

@@ -3,8 +3,8 @@ ghost use Rattle.std.specs.List.{AllByRecursion};
 ghost use Rattle.std.specs.Str.{IsUtf8};
 ghost use Rattle.sql_printer.specs.forms.Printable.{AreCharacters};
 
-use query_texts::TableNames;
 use perm_values::Chars;
+use query_texts::TableNames;
 
 /// Looks at names. It takes no memory.
 pub fn see_names(names: &[Chars])
