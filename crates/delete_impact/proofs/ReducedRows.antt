@@ -27,7 +27,7 @@ use Rattle.contribution.proofs.NodeQueries.{meaning-chosen}
 use Rattle.monotone_queries.specs.Monotone.{is_monotone, is_relation, is_whole_table}
 use Rattle.monotone_queries.proofs.Nodes.{whole_table-is}
 use Rattle.delete_impact.specs.vanishing.Doomed.{is_doomed, after_deletion}
-use Rattle.replaced_queries.specs.OverQueries.{over_queries, sub_over_queries}
+use Rattle.query_laws.specs.replaced.OverQueries.{over_queries, sub_over_queries}
 use Rattle.delete_impact.specs.reduced.Reduced.{not_true, rows_of, over_rows, reduced}
 use Rattle.delete_impact.proofs.Conditions.{doomed-tested, spared-tested}
 use Rattle.delete_impact.proofs.Tested.{gather-tested}

@@ -9,3 +9,5 @@ pub mod Nodes
 pub mod SameExpressions
 pub mod Standing
 pub mod SublinkLists
+pub mod replaced
+pub mod spines

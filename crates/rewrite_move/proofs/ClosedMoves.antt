@@ -22,8 +22,8 @@ use Rattle.rewrite_move.specs.Traced.{below_by, below_groups, traced_of}
 use Rattle.rewrite_move.specs.declared.share.Share.{Share}
 use Rattle.rewrite_move.specs.declared.share.Share.TheVariants.{NoRow, AllRows, MatchingRows, ByValue}
 use Rattle.rewrite_sublink.specs.Candidates.{beside_row}
-use Rattle.spine_joins.specs.Spines.{IsJoined, IsSpine, closed, dependent, filtered, ordinary, projected}
-use Rattle.spine_joins.specs.declared.spine.Spine.{Spine}
+use Rattle.query_laws.specs.spines.Spines.{IsJoined, IsSpine, closed, dependent, filtered, ordinary, projected}
+use Rattle.query_laws.specs.declared.spines.spine.Spine.{Spine}
 
 -- ---- joins
 

@@ -25,7 +25,7 @@ use Rattle.rewrite_base.specs.KeptColumns.{columns_kept, kept_places}
 use Rattle.rewrite_sublink.specs.Candidates.{answer_columns, answer_places, beside_row}
 use Rattle.rewrite_move.proofs.ClosedMoves.{joined-closed}
 use Rattle.rewrite_move.specs.Moved.{Like}
-use Rattle.spine_joins.specs.Spines.{IsBeside, IsJoined}
+use Rattle.query_laws.specs.spines.Spines.{IsBeside, IsJoined}
 
 pub like-itself : (q : Query) → is_plain q ≡ true → Like q q
 like-itself q plain = record { kinds = refl; stands = stands-itself q plain; none_open = λ h. h }

@@ -22,7 +22,7 @@ use Rattle.rewrite_move.specs.Moved.{Like, SubsTraced, all_moved, beside_nulls, 
 use Rattle.rewrite_move.specs.Shares.{share_of}
 use Rattle.rewrite_move.specs.declared.share.Share.{Share}
 use Rattle.rewrite_move.specs.Traced.{traced_of}
-use Rattle.spine_joins.specs.Spines.{IsBeside, IsJoined}
+use Rattle.query_laws.specs.spines.Spines.{IsBeside, IsJoined}
 
 -- ---- one sublink
 

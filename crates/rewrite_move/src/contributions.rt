@@ -8,7 +8,7 @@ ghost use Rattle.lateral_rewrite.specs.Dependent.{chosen_beside, contributed, pr
 ghost use Rattle.query_laws.specs.Standing.{SubStands, SubsStand};
 ghost use Rattle.rewrite_move.specs.Moved.{Like, SubsTraced, all_moved, matched, moved};
 ghost use Rattle.rewrite_move.specs.Traced.{traced_of};
-ghost use Rattle.spine_joins.specs.Spines.{IsBeside, IsJoined};
+ghost use Rattle.query_laws.specs.spines.Spines.{IsBeside, IsJoined};
 
 use crate::below::traced;
 use crate::forced::forces;
@@ -20,7 +20,7 @@ use lateral_rewrite::{Choice, choice_of, chosen_provenance, valued};
 use null_logic::Truth;
 use perm_values::{Copyable, NoMemory};
 use rewrite_base::{columns_kept, exact_width};
-use spine_joins::beside;
+use query_laws::beside;
 use std::alloc::Global;
 
 /// The rows, and for each sublink in turn its contributions, from a rewriting of what is traced for it. The condition is true of each

@@ -15,7 +15,7 @@ use lateral_rewrite::{Choice, compared};
 use perm_values::{Copyable, Kind, List, NoMemory};
 use rewrite_base::{columns_kept, exact_width};
 use rewrite_sublink::beside_row;
-use spine_joins::beside;
+use query_laws::beside;
 use std::alloc::Global;
 
 /// The rows beside NULLs in the place of the provenance of the rewriting of a query.

@@ -15,7 +15,7 @@ ghost use Rattle.bag_algebra.specs.declared.query.JoinKind.TheVariants.{Left};
 ghost use Rattle.bag_algebra.specs.declared.query.Query.{Query};
 ghost use Rattle.bag_algebra.specs.declared.query.Sublink.{Sublink};
 ghost use Rattle.query_laws.specs.SublinkLists.{Contributes};
-ghost use Rattle.spine_joins.specs.Spines.{IsBeside};
+ghost use Rattle.query_laws.specs.spines.Spines.{IsBeside};
 ghost use Rattle.rewrite_move.specs.Traced.{traced_of, traced_sub};
 
 /// Where a sublink has a value on a row, what is traced for it has a value there too and the same contributions. It stands over the query

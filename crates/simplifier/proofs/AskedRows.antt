@@ -29,10 +29,10 @@ use Rattle.bag_algebra.specs.declared.query.Sublink.{Sublink}
 use Rattle.bag_algebra.specs.declared.query.SubKind.TheVariants.{Any, Exists}
 use Rattle.contribution.proofs.AddedColumns.{columns-added}
 use Rattle.contribution.proofs.Growth.{tested-same}
-use Rattle.spine_joins.proofs.SpineItems.{items-good, row_by}
-use Rattle.spine_joins.proofs.SpineRows.{spine_row, where_holds}
-use Rattle.spine_joins.specs.Spines.{test_of, tests_with}
-use Rattle.spine_joins.specs.declared.spine.Spine.{Spine}
+use Rattle.query_laws.proofs.SpineItems.{items-good, row_by}
+use Rattle.query_laws.proofs.SpineRows.{spine_row, where_holds}
+use Rattle.query_laws.specs.spines.Spines.{test_of, tests_with}
+use Rattle.query_laws.specs.declared.spines.spine.Spine.{Spine}
 use Rattle.simplifier.specs.Forced.{Asks, compared, for_any, for_some}
 
 -- a list of one

@@ -38,10 +38,10 @@ use Rattle.contribution.specs.Fitting.{Fitting}
 use Rattle.query_laws.proofs.StandingSublinks.{gather-on}
 use Rattle.rewrite_base.proofs.Itself.{stands-onward}
 use Rattle.simpler_laws.proofs.TestedQueries.{by, stands-equal}
-use Rattle.spine_joins.proofs.SpineForms.{base-formed, spine-fault_free, spine-faultless, spine-tables}
-use Rattle.spine_joins.proofs.SpineRows.{spine_row, spine-rows}
-use Rattle.spine_joins.specs.Spines.{IsSpine}
-use Rattle.spine_joins.specs.declared.spine.Spine.{Spine}
+use Rattle.query_laws.proofs.SpineForms.{base-formed, spine-fault_free, spine-faultless, spine-tables}
+use Rattle.query_laws.proofs.SpineRows.{spine_row, spine-rows}
+use Rattle.query_laws.specs.spines.Spines.{IsSpine}
+use Rattle.query_laws.specs.declared.spines.spine.Spine.{Spine}
 use Rattle.simplifier.proofs.ForcedRows.{forced-rows}
 use Rattle.simplifier.proofs.AskedRows.{Holds, good-is, is-asked}
 use Rattle.simplifier.specs.Forced.{Asks, IsForced}

@@ -14,8 +14,8 @@ use Rattle.bag_algebra.specs.declared.query.Query.{Query}
 use Rattle.bag_algebra.specs.declared.query.Query.TheVariants.{Filter}
 use Rattle.bag_algebra.specs.declared.query.SubKind.TheVariants.{Any, Exists}
 use Rattle.bag_algebra.specs.declared.query.Sublink.{Sublink}
-use Rattle.spine_joins.specs.Spines.{IsSpine, tests_with}
-use Rattle.spine_joins.specs.declared.spine.Spine.{Spine}
+use Rattle.query_laws.specs.spines.Spines.{IsSpine, tests_with}
+use Rattle.query_laws.specs.declared.spines.spine.Spine.{Spine}
 
 -- that a comparison of both is true
 abbrev pub compared : Compare → Expr → Expr → Expr

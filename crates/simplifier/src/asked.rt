@@ -2,13 +2,13 @@
 ghost use Rattle.std.specs.Prelude.{◌≡◌, [], ◌∷◌, IsTrue};
 ghost use Rattle.null_logic.specs.declared.operator.Operator.TheVariants as op;
 ghost use Rattle.bag_algebra.specs.declared.expr.Expr.TheVariants.{Op};
-ghost use Rattle.spine_joins.specs.Spines.{tests_with};
+ghost use Rattle.query_laws.specs.spines.Spines.{tests_with};
 ghost use Rattle.simplifier.specs.Forced.{Asks, AsksAny, IsOn, compared};
 
 use crate::alike::{same_expr, same_table};
 use bag_algebra::{Expr, Query, SubKind, Sublink};
 use null_logic::{Compare, Operator, Truth};
-use spine_joins::Spine;
+use query_laws::Spine;
 
 /// Whether a sublink of the kind asks anything of a row that a join can ask.
 pub(crate) fn may_ask(kind: SubKind) -> bool {

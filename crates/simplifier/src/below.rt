@@ -2,11 +2,11 @@
 ghost use Rattle.std.specs.Prelude.{◌≡◌, ℕ, [], ◌∷◌, IfOk, IfSome};
 ghost use Rattle.bag_algebra.specs.declared.query.Query.TheVariants.{Project};
 ghost use Rattle.bag_algebra.specs.declared.query.Query.{Query};
-ghost use Rattle.spine_joins.specs.Spines.{IsSpine, spine_over};
+ghost use Rattle.query_laws.specs.spines.Spines.{IsSpine, spine_over};
 
 use bag_algebra::{Item, Query, faultless};
 use perm_values::{List, NoMemory};
-use spine_joins::{Spine, placed, spine_of};
+use query_laws::{Spine, placed, spine_of};
 use std::alloc::Global;
 
 /// The spine that a query is beside rows of so many columns, if one is found: of a projection to one column over its input's, also

@@ -28,7 +28,7 @@ use Rattle.perm_catalog.specs.declared.entries.TableEntry.{TableEntry}
 use Rattle.stored_provenance.proofs.Found.{found-named}
 use Rattle.stored_provenance.proofs.Marks.{nat_same, nat_equal, some_same, has-entry, all-pass}
 use Rattle.stored_provenance.proofs.Soundness.{are-apart}
-use Rattle.replaced_queries.specs.OverQueries.{ReadsAs}
+use Rattle.query_laws.specs.replaced.OverQueries.{ReadsAs}
 use Rattle.stored_provenance.specs.Held.{IsHeldTable}
 use Rattle.stored_provenance.proofs.KeptOnce.{entry-id}
 

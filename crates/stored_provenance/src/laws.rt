@@ -19,7 +19,7 @@ ghost use Rattle.perm_catalog.specs.Stored.{IsFresh, IsSoundMark, mark_of};
 ghost use Rattle.perm_catalog.specs.declared.column.Column.{Column};
 ghost use Rattle.perm_catalog.specs.declared.entries.Mark.{Mark};
 ghost use Rattle.perm_catalog.specs.declared.entries.TableEntry.{TableEntry as Table};
-ghost use Rattle.replaced_queries.specs.OverQueries.{over_queries, standing};
+ghost use Rattle.query_laws.specs.replaced.OverQueries.{over_queries, standing};
 ghost use Rattle.stored_provenance.specs.Held.{IsHeldTable};
 
 /// Over a sound catalog, a table made of a query with PROVENANCE, which reads no outer row and none but the

@@ -17,7 +17,7 @@ use Rattle.bag_algebra.specs.declared.query.Label.TheVariants.{External}
 use Rattle.bag_algebra.specs.declared.query.SubKind.TheVariants.{Any}
 use Rattle.bag_algebra.specs.declared.query.Query.{Query, end_of-Sublink}
 use Rattle.bag_algebra.specs.declared.query.Query.TheVariants.{Table}
-use Rattle.replaced_queries.specs.OverQueries.{over_queries, standing}
+use Rattle.query_laws.specs.replaced.OverQueries.{over_queries, standing}
 use Rattle.worked_examples.specs.Queries.{none, num, x, y, holding, col, number, compared, r, s, item, select, select_a, where_sub, printed}
 
 abbrev columns : List Kind

@@ -13,8 +13,8 @@ use Rattle.bag_algebra.specs.declared.query.JoinKind.TheVariants.{Inner, Left}
 use Rattle.bag_algebra.specs.declared.query.Query.{Query, end_of-Sublink}
 use Rattle.bag_algebra.specs.declared.query.SubKind.TheVariants.{Any, Exists, Scalar}
 use Rattle.bag_algebra.specs.declared.query.Sublink.{Sublink}
-use Rattle.spine_joins.specs.Spines.{all_behind, is_spine, spine_join}
-use Rattle.spine_joins.specs.declared.spine.Spine.{Spine}
+use Rattle.query_laws.specs.spines.Spines.{all_behind, is_spine, spine_join}
+use Rattle.query_laws.specs.declared.spines.spine.Spine.{Spine}
 use Rattle.rewrite_move.specs.Traced.{below_groups, traced_of, traced_sub}
 use Rattle.worked_examples.specs.Queries.{none, num, x, y, holding, col, number, compared, r, s, item, select, printed, reckoned}
 

@@ -21,11 +21,11 @@ use Rattle.bag_algebra.specs.declared.query.Query.{Query, Row_of-Sublink, more_o
 use Rattle.bag_algebra.specs.declared.query.Query.TheVariants.{Table, Single}
 use Rattle.monotone_queries.specs.Monotone.{is_monotone, is_relation, is_whole_table}
 use Rattle.monotone_queries.proofs.Nodes.{whole_table-is}
-use Rattle.replaced_queries.specs.OverQueries.{over_queries, sub_over_queries, HasColumns}
-use Rattle.replaced_queries.proofs.KeptColumns.{kinds-over}
-use Rattle.replaced_queries.proofs.KeptForms.{formed-over}
-use Rattle.replaced_queries.proofs.OwnTables.{over-own_tables}
-use Rattle.replaced_queries.proofs.TablesInPlace.{each_table-over}
+use Rattle.query_laws.specs.replaced.OverQueries.{over_queries, sub_over_queries, HasColumns}
+use Rattle.query_laws.proofs.KeptColumns.{kinds-over}
+use Rattle.query_laws.proofs.KeptForms.{formed-over}
+use Rattle.query_laws.proofs.OwnTables.{over-own_tables}
+use Rattle.query_laws.proofs.TablesInPlace.{each_table-over}
 use Rattle.delete_impact.specs.reduced.Reduced.{not_true, rows_of, over_rows}
 
 -- ---- plain

@@ -8,7 +8,7 @@ use Rattle.bag_algebra.specs.declared.expr.Expr.TheVariants.{IsTruth}
 use Rattle.bag_algebra.specs.declared.query.JoinKind.TheVariants.{Inner}
 use Rattle.bag_algebra.specs.declared.query.Query.{Query, end_of-Sublink}
 use Rattle.bag_algebra.specs.declared.query.Query.TheVariants.{Table, Apply, Except, Aggregate}
-use Rattle.replaced_queries.specs.OverQueries.{over_queries}
+use Rattle.query_laws.specs.replaced.OverQueries.{over_queries}
 
 -- it is false or unknown
 abbrev pub not_true : Expr → Expr

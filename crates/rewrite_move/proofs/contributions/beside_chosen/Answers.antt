@@ -5,7 +5,7 @@ use Rattle.rewrite_base.specs.KeptColumns.{columns_kept}
 use Rattle.rewrite_move.proofs.MovedRows.{chosen-moved}
 use Rattle.rewrite_move.proofs.contributions.beside_chosen.Goals as goal
 use Rattle.rewrite_move.specs.Moved.{Like}
-use Rattle.spine_joins.specs.Spines.{IsBeside, IsJoined}
+use Rattle.query_laws.specs.spines.Spines.{IsBeside, IsJoined}
 
 pub returns : goal.returns
 returns c whole l =

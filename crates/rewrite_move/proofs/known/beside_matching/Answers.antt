@@ -4,7 +4,7 @@ use Rattle.rewrite_base.specs.KeptColumns.{columns_kept}
 use Rattle.rewrite_move.proofs.MovedRows.{matching-moved}
 use Rattle.rewrite_move.proofs.known.beside_matching.Goals as goal
 use Rattle.rewrite_move.specs.Moved.{Like, matching_beside}
-use Rattle.spine_joins.specs.Spines.{IsBeside, IsJoined}
+use Rattle.query_laws.specs.spines.Spines.{IsBeside, IsJoined}
 
 pub returns : goal.returns
 returns c whole l =

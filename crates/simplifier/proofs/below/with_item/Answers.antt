@@ -2,8 +2,8 @@ use Rattle.std.proofs.Common.{sym, ◌∙◌, ap, refl, subst, ◌∷◌, []}
 use Rattle.bag_algebra.proofs.Truths.{left-true}
 use Rattle.std.proofs.lemmas.Bool.{and_from}
 use Rattle.bag_algebra.specs.FaultFree.{faultless}
-use Rattle.spine_joins.proofs.BuiltSpines.{projected-is}
-use Rattle.spine_joins.specs.PlacedColumns.{IsPlaced}
+use Rattle.query_laws.proofs.BuiltSpines.{projected-is}
+use Rattle.query_laws.specs.spines.PlacedColumns.{IsPlaced}
 use Rattle.simplifier.proofs.below.with_item.Goals as goal
 
 pub returns : goal.returns

@@ -1,5 +1,5 @@
 use Rattle.std.proofs.Common.{IfSome, subst}
-use Rattle.spine_joins.specs.Spines.{IsSpine}
+use Rattle.query_laws.specs.spines.Spines.{IsSpine}
 use Rattle.simplifier.proofs.forced.only_finds.Goals as goal
 
 pub returns-in-Some : goal.returns-in-Some

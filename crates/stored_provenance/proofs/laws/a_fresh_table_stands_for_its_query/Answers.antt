@@ -14,9 +14,9 @@ use Rattle.perm_catalog.specs.Sound.{IsSound, IsSoundTable}
 use Rattle.perm_catalog.specs.Stored.{IsFresh, IsSoundMark}
 use Rattle.perm_catalog.specs.declared.entries.Mark.{Mark}
 use Rattle.perm_catalog.specs.declared.entries.TableEntry.{TableEntry}
-use Rattle.replaced_queries.proofs.KeptMeaning.{same_meaning-over}
-use Rattle.replaced_queries.proofs.OneTable.{table-standing}
-use Rattle.replaced_queries.specs.OverQueries.{over_queries, standing, ReadsAs}
+use Rattle.query_laws.proofs.KeptMeaning.{same_meaning-over}
+use Rattle.query_laws.proofs.OneTable.{table-standing}
+use Rattle.query_laws.specs.replaced.OverQueries.{over_queries, standing, ReadsAs}
 use Rattle.stored_provenance.proofs.NewMarks.{reads-as}
 use Rattle.stored_provenance.proofs.laws.a_fresh_table_stands_for_its_query.Goals as goal
 

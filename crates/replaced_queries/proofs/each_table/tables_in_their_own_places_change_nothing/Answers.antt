@@ -1,5 +1,0 @@
-use Rattle.replaced_queries.proofs.OwnTables.{over-own_tables}
-use Rattle.replaced_queries.proofs.each_table.tables_in_their_own_places_change_nothing.Goals as goal
-
-pub returns : goal.returns
-returns c = over-own_tables
