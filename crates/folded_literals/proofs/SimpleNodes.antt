@@ -16,7 +16,7 @@ use Rattle.query_laws.proofs.StandingNodes.{stands-Filter}
 use Rattle.query_laws.specs.EveryExpression.{option_passes, items_pass, arguments_pass}
 use Rattle.query_laws.specs.SameExpressions.{SameExpr}
 use Rattle.query_laws.specs.Standing.{SubsStand}
-use Rattle.rewrite_base.proofs.Itself.{stands-onward}
+use Rattle.rewrite_core.proofs.Itself.{stands-onward}
 use Rattle.simpler_laws.proofs.TestedQueries.{stands-filtered}
 use Rattle.simpler_laws.specs.Tested.{tested}
 use Rattle.folded_literals.proofs.Settling.{all-more}

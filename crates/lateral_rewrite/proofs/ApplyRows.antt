@@ -38,13 +38,13 @@ use Rattle.query_laws.proofs.ApplyLists.{apply-lists}
 use Rattle.query_laws.proofs.Outcomes.{over-gather, good-mapped, good-good}
 use Rattle.query_laws.specs.ListsOfNodes.{ApplyList, of_right_row, of_no_right_row}
 use Rattle.query_laws.specs.SublinkLists.{InAnswer}
-use Rattle.rewrite_base.proofs.BesideLists.{same-from_rewritten}
-use Rattle.rewrite_base.proofs.Faults.{SameFaults, gather-bad_alike, mapped-same_faults}
-use Rattle.rewrite_base.proofs.FlatRows.{Flattened, flattened, row-begins, stands_beside}
-use Rattle.rewrite_base.proofs.JoinedOutcomes.{Related, rewritten-from_related}
-use Rattle.rewrite_base.proofs.KeptRewriting.{rewriting-related}
-use Rattle.rewrite_base.proofs.KeptRows.{row-width, list-width, length-nulls, nulls-of_rewriting, flat-append}
-use Rattle.rewrite_base.specs.Rewritten.{Beside}
+use Rattle.rewrite_core.proofs.BesideLists.{same-from_rewritten}
+use Rattle.rewrite_core.proofs.Faults.{SameFaults, gather-bad_alike, mapped-same_faults}
+use Rattle.rewrite_core.proofs.FlatRows.{Flattened, flattened, row-begins, stands_beside}
+use Rattle.rewrite_core.proofs.JoinedOutcomes.{Related, rewritten-from_related}
+use Rattle.rewrite_core.proofs.KeptRewriting.{rewriting-related}
+use Rattle.rewrite_core.proofs.KeptRows.{row-width, list-width, length-nulls, nulls-of_rewriting, flat-append}
+use Rattle.rewrite_core.specs.rewritings.Rewritten.{Beside}
 use Rattle.rewrite_sublink.proofs.LongerRows.{by, names-rewriting}
 use Rattle.rewrite_sublink.proofs.NodeRows.{Reaching, reaching-over}
 use Rattle.rewrite_sublink.proofs.SublinkRows.{good-related}

@@ -24,10 +24,10 @@ use Rattle.contribution.proofs.NodeQueries.{plain-projected}
 use Rattle.contribution.specs.Fitting.{Fitting}
 use Rattle.query_laws.proofs.Outcomes.{over-each, good-good}
 use Rattle.query_laws.specs.SublinkLists.{Contributes}
-use Rattle.rewrite_base.proofs.Faults.{in-each}
-use Rattle.rewrite_base.proofs.KeptRows.{row-width, kept-kinds}
-use Rattle.rewrite_base.proofs.Places.{at-kept, kept-within}
-use Rattle.rewrite_base.specs.KeptColumns.{columns_kept, kept_places}
+use Rattle.rewrite_core.proofs.Faults.{in-each}
+use Rattle.rewrite_core.proofs.KeptRows.{row-width, kept-kinds}
+use Rattle.rewrite_core.proofs.Places.{at-kept, kept-within}
+use Rattle.rewrite_core.specs.rewritings.KeptColumns.{columns_kept, kept_places}
 use Rattle.rewrite_sublink.proofs.Contributing.{padded_rows}
 use Rattle.rewrite_sublink.proofs.LongerRows.{row-begun}
 use Rattle.rewrite_sublink.proofs.Steps.{SubsFitting, Begun, HasValue, OnRows, Reached, StepGiven}

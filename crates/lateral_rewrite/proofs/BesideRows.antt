@@ -22,7 +22,7 @@ use Rattle.contribution.proofs.JoinMembers.{in-gather}
 use Rattle.contribution.specs.Fitting.{Fitting}
 use Rattle.query_laws.proofs.Outcomes.{over-gather, mapped-good, good-good}
 use Rattle.query_laws.specs.Faults.{IsGood}
-use Rattle.rewrite_base.proofs.Itself.{same_rows-itself}
+use Rattle.rewrite_core.proofs.Itself.{same_rows-itself}
 use Rattle.rewrite_sublink.proofs.Contributing.{padded_rows}
 use Rattle.lateral_rewrite.specs.Dependent.{beside}
 

@@ -39,8 +39,8 @@ use Rattle.contribution.proofs.AddedColumns.{columns-added}
 use Rattle.contribution.specs.SameColumns.{SameColumns}
 use Rattle.query_laws.proofs.SameExpressions.{tested-formed}
 use Rattle.query_laws.specs.Standing.{SubStands}
-use Rattle.rewrite_base.proofs.Places.{within-range}
-use Rattle.rewrite_base.specs.KeptColumns.{columns_kept, kept_places}
+use Rattle.rewrite_core.proofs.Places.{within-range}
+use Rattle.rewrite_core.specs.rewritings.KeptColumns.{columns_kept, kept_places}
 use Rattle.rewrite_sublink.proofs.LongerRows.{by, names-begin, subs-named}
 use Rattle.rewrite_sublink.proofs.MatchingRows.{gather-kept}
 use Rattle.rewrite_sublink.proofs.ProjectRows.{beside_row-kinds, beside_row-value, columns-formed}

@@ -4,8 +4,8 @@ use Rattle.std.proofs.lemmas.List.Elements.{All-nil, All-cons, All-head, All-tai
 use Rattle.bag_algebra.specs.declared.expr.Expr.{Expr}
 use Rattle.bag_algebra.specs.declared.query.Query.{Query}
 use Rattle.bag_algebra.specs.declared.query.Sublink.{Sublink}
-use Rattle.rewrite_base.proofs.ClosedSublinks.{closed-Project}
-use Rattle.rewrite_base.specs.OpenSublinks.{IsClosedSublink, NoOpenSublink}
+use Rattle.rewrite_core.proofs.ClosedSublinks.{closed-Project}
+use Rattle.rewrite_core.specs.rewritings.OpenSublinks.{IsClosedSublink, NoOpenSublink}
 use Rattle.rewrite_sublink.specs.Candidates.{beside_row}
 use Rattle.lateral_rewrite.specs.Dependent.{all_contributed, choice_of, chosen_beside, contributed, contributed_by, value_items}
 use Rattle.lateral_rewrite.specs.declared.choices.Choice.{Choice}

@@ -24,7 +24,7 @@ use Rattle.contribution.proofs.ColumnQueries.{meaning-columns}
 use Rattle.contribution.proofs.LongerKinds.{well_formed-longer}
 use Rattle.contribution.specs.Fitting.{Fitting}
 use Rattle.query_laws.specs.SublinkLists.{Contributes}
-use Rattle.rewrite_base.specs.KeptColumns.{kept_places}
+use Rattle.rewrite_core.specs.rewritings.KeptColumns.{kept_places}
 use Rattle.rewrite_sublink.proofs.Contributing.{padded_rows}
 use Rattle.rewrite_sublink.proofs.LongerRows.{names-begin, row-begun}
 use Rattle.rewrite_sublink.proofs.Steps.{SubsFitting, Begun, HasValue, Extended, OnRows, Reached, Step, StepGiven}

@@ -15,11 +15,11 @@ use Rattle.bag_algebra.specs.declared.query.Query.{Query}
 use Rattle.bag_algebra.specs.declared.query.SubKind.{SubKind}
 use Rattle.contribution.proofs.ColumnQueries.{kinds_of-columns, formed-columns}
 use Rattle.contribution.proofs.NodeQueries.{plain-projected}
-use Rattle.rewrite_base.proofs.FlatRows.{flattened}
-use Rattle.rewrite_base.proofs.KeptRows.{kept-kinds}
-use Rattle.rewrite_base.proofs.Places.{at-kept, kept-within}
-use Rattle.rewrite_base.specs.KeptColumns.{kept_places}
-use Rattle.rewrite_base.specs.Rewritten.{Beside}
+use Rattle.rewrite_core.proofs.FlatRows.{flattened}
+use Rattle.rewrite_core.proofs.KeptRows.{kept-kinds}
+use Rattle.rewrite_core.proofs.Places.{at-kept, kept-within}
+use Rattle.rewrite_core.specs.rewritings.KeptColumns.{kept_places}
+use Rattle.rewrite_core.specs.rewritings.Rewritten.{Beside}
 use Rattle.lateral_rewrite.proofs.RightRows.{ChosenLists, is_chosen}
 use Rattle.lateral_rewrite.specs.Dependent.{provenance_of}
 

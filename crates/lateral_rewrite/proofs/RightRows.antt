@@ -17,8 +17,8 @@ use Rattle.bag_algebra.specs.declared.query.Sublink.{Sublink}
 use Rattle.contribution.proofs.SetsOfNodes.{from_any}
 use Rattle.query_laws.proofs.Contributed.{in-chosen, chosen-is}
 use Rattle.query_laws.specs.SublinkLists.{Contributes, by_row, by_no_row}
-use Rattle.rewrite_base.proofs.JoinedOutcomes.{answer-listed}
-use Rattle.rewrite_base.proofs.KeptRows.{blank-width, flat-all_empty, list-width}
+use Rattle.rewrite_core.proofs.JoinedOutcomes.{answer-listed}
+use Rattle.rewrite_core.proofs.KeptRows.{blank-width, flat-all_empty, list-width}
 use Rattle.rewrite_sublink.proofs.Contributing.{padded_rows}
 use Rattle.rewrite_sublink.proofs.Steps.{SubsFitting, HasValue}
 use Rattle.rewrite_sublink.proofs.SublinkRows as under

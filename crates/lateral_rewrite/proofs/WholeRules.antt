@@ -10,7 +10,7 @@ use Rattle.bag_algebra.specs.declared.query.Sublink.{Sublink}
 use Rattle.query_laws.proofs.SameExpressions.{same-itself, items-themselves}
 use Rattle.query_laws.proofs.StandingNodes.{stands-Filter, stands-Project}
 use Rattle.query_laws.specs.Standing.{SubsStand}
-use Rattle.rewrite_base.proofs.Itself.{stands-itself}
+use Rattle.rewrite_core.proofs.Itself.{stands-itself}
 use Rattle.rewrite_sublink.proofs.FilterRows.{rewrite-Filter_with}
 use Rattle.rewrite_sublink.proofs.ProjectRows.{rewrite-Project_with}
 use Rattle.rewrite_sublink.specs.Candidates.{answer_columns, beside_row}

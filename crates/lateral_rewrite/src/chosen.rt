@@ -8,7 +8,7 @@ use crate::choices::{Choice, row_level};
 use bag_algebra::Expr;
 use null_logic::Operator;
 use perm_values::{Boxed, List, NoMemory};
-use rewrite_base::sum;
+use rewrite_core::sum;
 use std::alloc::Global;
 
 /// The sublink's value doesn't choose, or the comparison of the left operand and the row's first column has that truth too.

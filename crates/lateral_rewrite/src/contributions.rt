@@ -6,7 +6,7 @@ use crate::choices::{Choice, choice_of};
 use crate::sides::{beside, chosen_provenance, provenance, valued};
 use bag_algebra::{Expr, Query, Sublink};
 use perm_values::NoMemory;
-use rewrite_base::{columns_kept, exact_width};
+use rewrite_core::{columns_kept, exact_width};
 use std::alloc::Global;
 
 /// The rows, and for each sublink in turn its contributions.

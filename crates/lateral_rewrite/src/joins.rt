@@ -3,13 +3,13 @@ ghost use Rattle.std.specs.Prelude.{◌≡◌, IfOk};
 ghost use Rattle.bag_algebra.specs.Kinds.{width_of};
 ghost use Rattle.bag_algebra.specs.Rewriting.{IsRewrite};
 ghost use Rattle.bag_algebra.specs.declared.query.Query.TheVariants.{Apply};
-ghost use Rattle.rewrite_base.specs.OpenSublinks.{NoOpenSublink};
+ghost use Rattle.rewrite_core.specs.rewritings.OpenSublinks.{NoOpenSublink};
 ghost use Rattle.lateral_rewrite.specs.Applied.{regrouped};
 
 use bag_algebra::{JoinKind, Query};
 use contribution::regroup;
 use perm_values::{List, NoMemory};
-use rewrite_base::{exact_width, sum};
+use rewrite_core::{exact_width, sum};
 use std::alloc::Global;
 
 /// A rewriting of a dependent join: the dependent join of the rewritings, and then its columns before those of provenance, the

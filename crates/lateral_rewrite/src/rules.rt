@@ -4,7 +4,7 @@ ghost use Rattle.bag_algebra.specs.Kinds.{width_of};
 ghost use Rattle.bag_algebra.specs.Rewriting.{IsRewrite};
 ghost use Rattle.bag_algebra.specs.declared.query.Query.TheVariants.{Filter, Project};
 ghost use Rattle.query_laws.specs.Standing.{SubsStand};
-ghost use Rattle.rewrite_base.specs.OpenSublinks.{IsClosedSublink, NoOpenSublink};
+ghost use Rattle.rewrite_core.specs.rewritings.OpenSublinks.{IsClosedSublink, NoOpenSublink};
 ghost use Rattle.rewrite_sublink.specs.Candidates.{answer_columns, beside_row};
 ghost use Rattle.rewrite_sublink.specs.SubRewritings.{SubsRewritten};
 ghost use Rattle.lateral_rewrite.specs.Dependent.{all_contributed};
@@ -12,7 +12,7 @@ ghost use Rattle.lateral_rewrite.specs.Dependent.{all_contributed};
 use crate::contributions::with_contributions;
 use bag_algebra::{Expr, Item, Query, Sublink};
 use perm_values::{List, NoMemory};
-use rewrite_base::exact_width;
+use rewrite_core::exact_width;
 use rewrite_sublink::{answer_columns, own_items, own_rows};
 use std::alloc::Global;
 

@@ -10,7 +10,7 @@ use crate::chosen::contributes;
 use bag_algebra::{Expr, Item, Query, Sublink};
 use contribution::{kind_or_text, kinds, selection};
 use perm_values::{Copyable, Kind, List, NoMemory, both};
-use rewrite_base::{columns_kept, exact_width};
+use rewrite_core::{columns_kept, exact_width};
 use rewrite_sublink::beside_row;
 use std::alloc::Global;
 

@@ -30,16 +30,16 @@ use Rattle.bag_algebra.specs.declared.query.Query.TheVariants.{Aggregate}
 use Rattle.contribution.proofs.Classes.{from-grouped, some_of_class}
 use Rattle.contribution.proofs.SetsOfRows.{union-same}
 use Rattle.contribution.specs.Fitting.{Fitting}
-use Rattle.rewrite_base.proofs.JoinedOutcomes.{Related, Combines, Joins, related-onward, joined-related, unlisted, no_entries, unlisted_list, unlisted-related, answer-listed, listed-row}
-use Rattle.rewrite_base.proofs.JoinedRows.{Spread, beside_list, spread-from_beside, beside-from_spread, JoinedList, of_met, of_alone, joined_good, joined-spread}
-use Rattle.rewrite_base.proofs.KeptRewriting.{Side, rewriting-related, rewriting-side, kept-rewrites}
-use Rattle.rewrite_base.proofs.KeptRows.{row-width, list-width, blank-width, length-nulls, nulls-of_rewriting, kept-row, kept-kinds}
-use Rattle.rewrite_base.proofs.Places.{at, at-between, at-moved, at-within, within-range}
-use Rattle.rewrite_base.specs.KeptColumns.{kept_places, pairs_of, columns_kept}
+use Rattle.rewrite_core.proofs.JoinedOutcomes.{Related, Combines, Joins, related-onward, joined-related, unlisted, no_entries, unlisted_list, unlisted-related, answer-listed, listed-row}
+use Rattle.rewrite_core.proofs.JoinedRows.{Spread, beside_list, spread-from_beside, beside-from_spread, JoinedList, of_met, of_alone, joined_good, joined-spread}
+use Rattle.rewrite_core.proofs.KeptRewriting.{Side, rewriting-related, rewriting-side, kept-rewrites}
+use Rattle.rewrite_core.proofs.KeptRows.{row-width, list-width, blank-width, length-nulls, nulls-of_rewriting, kept-row, kept-kinds}
+use Rattle.rewrite_core.proofs.Places.{at, at-between, at-moved, at-within, within-range}
+use Rattle.rewrite_core.specs.rewritings.KeptColumns.{kept_places, pairs_of, columns_kept}
 use Rattle.query_laws.proofs.Inputs.{across, aggregate-input}
 use Rattle.contribution.proofs.ColumnQueries.{all-first, all-nothing, all-rest}
 use Rattle.contribution.proofs.SameTests.{tests-value, conjunction-formed}
-use Rattle.rewrite_base.specs.Rewritten.{Beside}
+use Rattle.rewrite_core.specs.rewritings.Rewritten.{Beside}
 use Rattle.query_laws.proofs.NodeLists.{aggregate-lists}
 use Rattle.query_laws.specs.ListsOfNodes.{AggregateList, of_class, of_no_row}
 use Rattle.query_laws.specs.SublinkLists.{InAnswer}

@@ -27,10 +27,10 @@ use Rattle.bag_algebra.specs.declared.query.Query.TheVariants.{Base}
 use Rattle.contribution.specs.Fitting.{Fitting}
 use Rattle.contribution.proofs.ColumnQueries.{formed-columns, kinds_of-columns, meaning-columns}
 use Rattle.contribution.proofs.NodeQueries.{plain-projected}
-use Rattle.rewrite_base.proofs.Faults.{SameFaults}
-use Rattle.rewrite_base.proofs.FlatRows.{Flattened}
+use Rattle.rewrite_core.proofs.Faults.{SameFaults}
+use Rattle.rewrite_core.proofs.FlatRows.{Flattened}
 use Rattle.rewrite_core.proofs.NodeRows.{rewritten-where}
-use Rattle.rewrite_base.proofs.Places.{within-range}
+use Rattle.rewrite_core.proofs.Places.{within-range}
 use Rattle.rewrite_core.proofs.RowColumns.{from_start, row-width}
 use Rattle.rewrite_core.proofs.RuleRows.{rows-from_beside}
 use Rattle.query_laws.proofs.NodeLists.{base-lists}

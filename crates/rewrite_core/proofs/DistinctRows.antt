@@ -11,7 +11,7 @@ use Rattle.bag_algebra.specs.Rewriting.{IsRewrite}
 use Rattle.bag_algebra.specs.declared.query.Query.{Query}
 use Rattle.bag_algebra.specs.declared.query.Query.TheVariants.{Distinct}
 use Rattle.rewrite_core.proofs.RuleRows.{beside-from_rewrite, rows-from_beside}
-use Rattle.rewrite_base.specs.Rewritten.{Rewritten}
+use Rattle.rewrite_core.specs.rewritings.Rewritten.{Rewritten}
 
 -- a row that is there has its lists
 listed : (there : Bool) (ws : List Witness) (w : Witness) → there ≡ true → Contains ws w → Contains (cond there ws []) w

@@ -24,12 +24,12 @@ use Rattle.contribution.proofs.JoinMembers.{in-gather, in-kept}
 use Rattle.contribution.proofs.LongerKinds.{has_kind-longer, names-more}
 use Rattle.contribution.specs.Fitting.{Fitting}
 use Rattle.contribution.proofs.NodeQueries.{meaning-chosen, formed-chosen, plain-chosen}
-use Rattle.rewrite_base.proofs.Faults.{SameFaults, kept-alike, gather-bad_alike}
-use Rattle.rewrite_base.proofs.FlatRows.{Flattened, flattened, stands_beside, row-begins}
+use Rattle.rewrite_core.proofs.Faults.{SameFaults, kept-alike, gather-bad_alike}
+use Rattle.rewrite_core.proofs.FlatRows.{Flattened, flattened, stands_beside, row-begins}
 use Rattle.rewrite_core.proofs.NodeRows.{Made, rewritten-over}
 use Rattle.rewrite_core.proofs.RuleRows.{beside-from_rewrite, rows-from_beside}
 use Rattle.rewrite_core.proofs.Unlinked.{listed-followed, followed-listed}
-use Rattle.rewrite_base.specs.Rewritten.{Beside}
+use Rattle.rewrite_core.specs.rewritings.Rewritten.{Beside}
 use Rattle.query_laws.proofs.NodeLists.{filter-lists}
 use Rattle.query_laws.specs.ListsOfNodes.{Followed}
 use Rattle.query_laws.specs.SublinkLists.{InAnswer}

@@ -4,7 +4,7 @@ use Rattle.std.proofs.lemmas.List.{map-append}
 use Rattle.std.proofs.lemmas.List.Elements.{All-append}
 use Rattle.std.specs.List.{range_with_len}
 use Rattle.bag_algebra.specs.WellFormed.{PlacesIn}
-use Rattle.rewrite_base.proofs.Places.{at-between, within-range}
+use Rattle.rewrite_core.proofs.Places.{at-between, within-range}
 use Rattle.rewrite_core.proofs.RowColumns.{behind}
 use Rattle.rewrite_core.specs.JoinColumns.{own_places, added_places}
 

@@ -34,16 +34,16 @@ use Rattle.contribution.proofs.ColumnQueries.{formed-columns, kinds_of-columns, 
 use Rattle.contribution.proofs.NodeQueries.{formed-pairs, meaning-pairs, plain-pairs, plain-projected}
 use Rattle.contribution.specs.MovedColumns.{IsMoved}
 use Rattle.bag_algebra.proofs.Truths.{both-true}
-use Rattle.rewrite_base.proofs.Faults.{SameFaults, kept-alike, gather-bad_alike, good-mapped, mapped-same_faults, same_faults-then}
-use Rattle.rewrite_base.proofs.KeptRows.{flat-append, flat-all_empty, length-nulls, nulls-append, list-width}
+use Rattle.rewrite_core.proofs.Faults.{SameFaults, kept-alike, gather-bad_alike, good-mapped, mapped-same_faults, same_faults-then}
+use Rattle.rewrite_core.proofs.KeptRows.{flat-append, flat-all_empty, length-nulls, nulls-append, list-width}
 use Rattle.rewrite_core.proofs.JoinColumns.{all-columns, all-within, own-columns, own-within}
-use Rattle.rewrite_base.proofs.FlatRows.{Flattened, flattened, stands_beside}
+use Rattle.rewrite_core.proofs.FlatRows.{Flattened, flattened, stands_beside}
 use Rattle.rewrite_core.proofs.NodeRows.{Made, rewritten-over_both}
 use Rattle.rewrite_core.proofs.RowColumns.{row-width, width-rewriting}
 use Rattle.rewrite_core.proofs.RuleRows.{beside-from_rewrite, rows-from_beside}
 use Rattle.rewrite_core.proofs.Unlinked.{none-contribute}
 use Rattle.rewrite_core.specs.JoinColumns.{own_places, added_places, IsLaidOut}
-use Rattle.rewrite_base.specs.Rewritten.{Beside}
+use Rattle.rewrite_core.specs.rewritings.Rewritten.{Beside}
 use Rattle.query_laws.proofs.AnswerRows.{answer-in, answer-from}
 use Rattle.query_laws.proofs.JoinLists.{join-lists}
 use Rattle.query_laws.proofs.PairedLists.{none_passes, none-pass}

@@ -20,13 +20,13 @@ use Rattle.bag_algebra.specs.declared.query.Query.{Query}
 use Rattle.bag_algebra.specs.declared.query.Query.TheVariants.{Limit}
 use Rattle.contribution.proofs.SetsOfRows.{union-same}
 use Rattle.contribution.specs.Fitting.{Fitting}
-use Rattle.rewrite_base.proofs.JoinedOutcomes.{Related, Combines, Joins, joined-related, unlisted, no_entries, unlisted_list, unlisted-related, answer-listed, listed-row}
-use Rattle.rewrite_base.proofs.JoinedRows.{beside_list, beside-from_spread}
-use Rattle.rewrite_base.proofs.KeptRewriting.{Side, rewriting-related, rewriting-side, kept-rewrites}
-use Rattle.rewrite_base.proofs.KeptRows.{row-width, list-width, kept-row, kept-kinds, same-formed}
-use Rattle.rewrite_base.specs.KeptColumns.{kept_places, same_as_first, pairs_of, columns_kept}
+use Rattle.rewrite_core.proofs.JoinedOutcomes.{Related, Combines, Joins, joined-related, unlisted, no_entries, unlisted_list, unlisted-related, answer-listed, listed-row}
+use Rattle.rewrite_core.proofs.JoinedRows.{beside_list, beside-from_spread}
+use Rattle.rewrite_core.proofs.KeptRewriting.{Side, rewriting-related, rewriting-side, kept-rewrites}
+use Rattle.rewrite_core.proofs.KeptRows.{row-width, list-width, kept-row, kept-kinds, same-formed}
+use Rattle.rewrite_core.specs.rewritings.KeptColumns.{kept_places, same_as_first, pairs_of, columns_kept}
 use Rattle.query_laws.proofs.Inputs.{across, limit-input}
-use Rattle.rewrite_base.specs.Rewritten.{Beside}
+use Rattle.rewrite_core.specs.rewritings.Rewritten.{Beside}
 use Rattle.query_laws.proofs.NodeLists.{limit-lists}
 use Rattle.query_laws.specs.SublinkLists.{InAnswer}
 use Rattle.rewrite_core.proofs.Matched.{Matching, matched-spread}

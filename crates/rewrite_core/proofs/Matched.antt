@@ -7,10 +7,10 @@ use Rattle.bag_algebra.specs.Expressions.{value}
 use Rattle.bag_algebra.specs.Means.{Witness, flat, joined_rows}
 use Rattle.bag_algebra.specs.Outcome.{Good}
 use Rattle.bag_algebra.specs.declared.query.JoinKind.TheVariants.{Inner}
-use Rattle.rewrite_base.proofs.JoinedRows.{Spread, beside_list, spread-from_beside, JoinedList, of_met, of_alone, joined_good, joined-spread}
-use Rattle.rewrite_base.proofs.KeptRows.{same-value}
-use Rattle.rewrite_base.specs.KeptColumns.{same_as_first}
-use Rattle.rewrite_base.specs.Rewritten.{Beside}
+use Rattle.rewrite_core.proofs.JoinedRows.{Spread, beside_list, spread-from_beside, JoinedList, of_met, of_alone, joined_good, joined-spread}
+use Rattle.rewrite_core.proofs.KeptRows.{same-value}
+use Rattle.rewrite_core.specs.rewritings.KeptColumns.{same_as_first}
+use Rattle.rewrite_core.specs.rewritings.Rewritten.{Beside}
 
 -- a list of the row on the left and one on the right
 pub record MatchedList (left_lists right_lists : Row → List Witness) (us : Bag) (t : Row) (w : Witness) : Type 0 where

@@ -6,9 +6,9 @@ use Rattle.bag_algebra.specs.Meaning.{Database, meaning, witnesses}
 use Rattle.bag_algebra.specs.Means.{Witness}
 use Rattle.bag_algebra.specs.Outcome.{Outcome, Good, Bad, and_then, both_then, union}
 use Rattle.bag_algebra.specs.declared.query.Query.{Query}
-use Rattle.rewrite_base.proofs.Faults.{SameFaults}
-use Rattle.rewrite_base.proofs.FlatRows.{Flattened, beside-flattened}
-use Rattle.rewrite_base.specs.Rewritten.{Beside, Rewritten}
+use Rattle.rewrite_core.proofs.Faults.{SameFaults}
+use Rattle.rewrite_core.proofs.FlatRows.{Flattened, beside-flattened}
+use Rattle.rewrite_core.specs.rewritings.Rewritten.{Beside, Rewritten}
 
 -- both are good and stand beside one another, or both are bad with one set of faults
 pub data BothStand (lists : Row → List Witness) : Outcome Bag → Outcome Bag → Type 0 where

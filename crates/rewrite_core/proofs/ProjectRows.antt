@@ -33,16 +33,16 @@ use Rattle.contribution.proofs.ColumnQueries.{column_items-formed, column_items-
 use Rattle.contribution.proofs.NodeQueries.{meaning-projected, formed-projected, plain-projected}
 use Rattle.contribution.proofs.Padding.{items-append, kinds-append}
 use Rattle.contribution.specs.ItemKinds.{item_kinds}
-use Rattle.rewrite_base.proofs.Faults.{SameFaults, same_faults-made, each-bad_alike, good-mapped, in-each}
-use Rattle.rewrite_base.proofs.FlatRows.{Flattened, flattened, stands_beside, row-begins}
+use Rattle.rewrite_core.proofs.Faults.{SameFaults, same_faults-made, each-bad_alike, good-mapped, in-each}
+use Rattle.rewrite_core.proofs.FlatRows.{Flattened, flattened, stands_beside, row-begins}
 use Rattle.rewrite_core.proofs.NodeRows.{Made, rewritten-over}
-use Rattle.rewrite_base.proofs.Places.{within-range}
-use Rattle.rewrite_base.proofs.KeptRows.{list-width}
+use Rattle.rewrite_core.proofs.Places.{within-range}
+use Rattle.rewrite_core.proofs.KeptRows.{list-width}
 use Rattle.rewrite_core.proofs.RowColumns.{behind, row-width, width-rewriting, width-provenance}
 use Rattle.rewrite_core.proofs.RuleRows.{beside-from_rewrite, rows-from_beside}
 use Rattle.rewrite_core.proofs.Unlinked.{listed-followed, followed-listed}
 use Rattle.rewrite_core.specs.ProvenanceColumns.{provenance_places, provenance_items}
-use Rattle.rewrite_base.specs.Rewritten.{Beside}
+use Rattle.rewrite_core.specs.rewritings.Rewritten.{Beside}
 use Rattle.query_laws.proofs.AnswerRows.{answer-in, answer-from}
 use Rattle.query_laws.proofs.NodeLists.{project-lists}
 use Rattle.query_laws.specs.ListsOfNodes.{ProjectList}

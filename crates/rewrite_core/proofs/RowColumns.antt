@@ -12,8 +12,8 @@ use Rattle.bag_algebra.specs.WellFormed.{WellFormed}
 use Rattle.bag_algebra.specs.Rewriting.{IsRewrite}
 use Rattle.bag_algebra.specs.declared.query.Query.{Query}
 use Rattle.contribution.specs.Fitting.{Fitting}
-use Rattle.rewrite_base.proofs.KeptRows as kept
-use Rattle.rewrite_base.proofs.Places.{at-between}
+use Rattle.rewrite_core.proofs.KeptRows as kept
+use Rattle.rewrite_core.proofs.Places.{at-between}
 
 pub row-width : (outer : List (List Kind)) (q : Query) (db : Database) (env : List Row) → Fitting outer q db env → (us : Bag) → meaning q db env ≡ Good us →
     (t : Row) → IsIn t us → length t ≡ width_of q

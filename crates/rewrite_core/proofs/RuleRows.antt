@@ -9,8 +9,8 @@ use Rattle.bag_algebra.specs.built.Patterns.{ProvOf}
 use Rattle.bag_algebra.specs.Rewriting.{IsRewrite, SameSet}
 use Rattle.bag_algebra.specs.WellFormed.{WellFormed}
 use Rattle.bag_algebra.specs.declared.query.Query.{Query}
-use Rattle.rewrite_base.proofs.BesideLists.{rewritten-from_same, same-from_rewritten}
-use Rattle.rewrite_base.specs.Rewritten.{Rewritten}
+use Rattle.rewrite_core.proofs.BesideLists.{rewritten-from_same, same-from_rewritten}
+use Rattle.rewrite_core.specs.rewritings.Rewritten.{Rewritten}
 
 module _ (q p : Query) (db : Database) (env : List Row) where
   pub beside-from_rewrite : IsRewrite q p → (outer : List (List Kind)) → WellFormed outer q → TablesFit db q → env_fits env outer ≡ true →

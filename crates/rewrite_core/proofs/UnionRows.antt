@@ -29,14 +29,14 @@ use Rattle.contribution.proofs.NodeQueries.{plain-projected}
 use Rattle.contribution.proofs.Padding.{formed-padded, kinds_of-padded, meaning-padded}
 use Rattle.contribution.specs.NullItems.{padded_row}
 use Rattle.bag_algebra.proofs.Truths.{both-true}
-use Rattle.rewrite_base.proofs.FlatRows.{Flattened, flattened}
+use Rattle.rewrite_core.proofs.FlatRows.{Flattened, flattened}
 use Rattle.rewrite_core.proofs.NodeRows.{Made, rewritten-over_both}
-use Rattle.rewrite_base.proofs.Places.{within-range}
-use Rattle.rewrite_base.proofs.KeptRows.{flat-append, list-width, flat-all_empty}
+use Rattle.rewrite_core.proofs.Places.{within-range}
+use Rattle.rewrite_core.proofs.KeptRows.{flat-append, list-width, flat-all_empty}
 use Rattle.rewrite_core.proofs.RowColumns.{behind, between, row-width, width-provenance, width-rewriting}
 use Rattle.rewrite_core.proofs.RuleRows.{beside-from_rewrite, rows-from_beside}
 use Rattle.rewrite_core.specs.UnionColumns.{items_behind, padded_behind, provenance_kinds}
-use Rattle.rewrite_base.specs.Rewritten.{Beside}
+use Rattle.rewrite_core.specs.rewritings.Rewritten.{Beside}
 use Rattle.query_laws.proofs.NodeLists.{union-lists}
 use Rattle.query_laws.specs.ListsOfNodes.{UnionList, from_left, from_right}
 use Rattle.query_laws.specs.SublinkLists.{InAnswer}

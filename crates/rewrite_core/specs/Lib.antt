@@ -4,3 +4,4 @@ pub mod OtherRows
 pub mod ProvenanceColumns
 pub mod SameGroups
 pub mod UnionColumns
+pub mod rewritings

@@ -5,14 +5,14 @@ ghost use Rattle.bag_algebra.specs.Rewriting.{IsRewrite, Stands};
 ghost use Rattle.bag_algebra.specs.declared.query.JoinKind.TheVariants.{Left};
 ghost use Rattle.bag_algebra.specs.declared.query.Query.TheVariants.{Aggregate};
 ghost use Rattle.bag_algebra.specs.declared.query.Query.{Query};
-ghost use Rattle.rewrite_base.specs.KeptColumns.{pairs_of, columns_kept};
-ghost use Rattle.rewrite_base.specs.OpenSublinks.{NoOpenSublink};
+ghost use Rattle.rewrite_core.specs.rewritings.KeptColumns.{pairs_of, columns_kept};
+ghost use Rattle.rewrite_core.specs.rewritings.OpenSublinks.{NoOpenSublink};
 ghost use Rattle.rewrite_core.specs.SameGroups.{same_groups};
 
 use bag_algebra::{Aggr, Expr, JoinKind, Query};
 use contribution::same_columns;
 use perm_values::{List, NoMemory, both};
-use rewrite_base::{exact_width, join_kept, sum};
+use crate::rewritings::{exact_width, join_kept, sum};
 use std::alloc::Global;
 
 /// A rewriting of the grouping of what the input stands for: each row of the grouping beside the rewriting's rows with the

@@ -5,14 +5,14 @@ ghost use Rattle.bag_algebra.specs.Rewriting.{IsRewrite};
 ghost use Rattle.bag_algebra.specs.declared.query.Query.TheVariants.{Join};
 ghost use Rattle.bag_algebra.specs.declared.query.Query.{Query};
 ghost use Rattle.contribution.specs.MovedColumns.{IsMoved};
-ghost use Rattle.rewrite_base.specs.OpenSublinks.{NoOpenSublink};
+ghost use Rattle.rewrite_core.specs.rewritings.OpenSublinks.{NoOpenSublink};
 ghost use Rattle.rewrite_core.specs.JoinColumns.{own_places, added_places, IsPaired, IsLaidOut};
 
 use crate::columns::with_columns;
 use bag_algebra::{Expr, JoinKind, Query};
 use contribution::{join_on, moved};
 use perm_values::{List, NoMemory};
-use rewrite_base::{exact_width, sum};
+use crate::rewritings::{exact_width, sum};
 use std::alloc::Global;
 
 /// A rewriting of a join of any kind on a condition without sublinks: that join of the rewritings, on the condition with its

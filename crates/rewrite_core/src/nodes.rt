@@ -2,13 +2,13 @@
 ghost use Rattle.std.specs.Prelude.{◌≡◌, ◌++◌, [], Ok, IfOk};
 ghost use Rattle.bag_algebra.specs.Rewriting.{IsRewrite};
 ghost use Rattle.bag_algebra.specs.declared.query.Query.TheVariants.{Distinct, Filter, Project};
-ghost use Rattle.rewrite_base.specs.OpenSublinks.{NoOpenSublink};
+ghost use Rattle.rewrite_core.specs.rewritings.OpenSublinks.{NoOpenSublink};
 ghost use Rattle.rewrite_core.specs.ProvenanceColumns.{provenance_items};
 
 use bag_algebra::{Expr, Item, Query};
 use contribution::{columns_at, projection, selection};
 use perm_values::{Copyable, List, NoMemory};
-use rewrite_base::exact_width;
+use crate::rewritings::exact_width;
 use std::alloc::Global;
 
 /// A rewriting of the input's distinct rows: that of the input, since how often a row stands in a rewriting is free. It

@@ -6,12 +6,12 @@ ghost use Rattle.bag_algebra.specs.Rewriting.{IsRewrite, Stands};
 ghost use Rattle.bag_algebra.specs.declared.query.Label.{Label};
 ghost use Rattle.bag_algebra.specs.declared.query.Query.TheVariants.{Base};
 ghost use Rattle.bag_algebra.specs.declared.query.Query.{Query};
-ghost use Rattle.rewrite_base.specs.OpenSublinks.{NoOpenSublink};
+ghost use Rattle.rewrite_core.specs.rewritings.OpenSublinks.{NoOpenSublink};
 
 use crate::columns::with_columns;
 use bag_algebra::Query;
 use perm_values::{List, NoMemory};
-use rewrite_base::exact_width;
+use crate::rewritings::exact_width;
 use std::alloc::Global;
 
 /// A rewriting of the source with these places over a query for which the input stands: the input's columns, and then those

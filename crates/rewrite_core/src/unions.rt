@@ -7,14 +7,14 @@ ghost use Rattle.bag_algebra.specs.built.Patterns.{ProjectOf, UnionOf};
 ghost use Rattle.bag_algebra.specs.Rewriting.{IsRewrite};
 ghost use Rattle.bag_algebra.specs.declared.query.Query.TheVariants.{Union};
 ghost use Rattle.bag_algebra.specs.declared.query.Query.{end_of-Sublink};
-ghost use Rattle.rewrite_base.specs.OpenSublinks.{NoOpenSublink};
-ghost use Rattle.rewrite_base.specs.UnionSides.{before_nulls};
+ghost use Rattle.rewrite_core.specs.rewritings.OpenSublinks.{NoOpenSublink};
+ghost use Rattle.rewrite_core.specs.rewritings.UnionSides.{before_nulls};
 ghost use Rattle.rewrite_core.specs.UnionColumns.{items_behind, padded_behind, provenance_kinds};
 
 use bag_algebra::{Item, Query};
 use contribution::{columns_at, kinds, kinds_at, null_items, projection};
 use perm_values::{Kind, List, NoMemory};
-use rewrite_base::{UnionSide, before_nulls, exact_width};
+use crate::rewritings::{UnionSide, before_nulls, exact_width};
 use std::alloc::Global;
 
 /// A rewriting of a union, with all rows or each once, since how often a row stands in a rewriting is free: the rows of both

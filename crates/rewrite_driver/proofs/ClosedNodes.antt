@@ -14,11 +14,11 @@ use Rattle.bag_algebra.specs.declared.query.Query.TheVariants.{Table, Single, Ba
 use Rattle.bag_algebra.specs.declared.query.Sublink.{Sublink}
 use Rattle.query_laws.proofs.StandingNodes.{stands-Base, stands-Filter, stands-Project, stands-Join, stands-Apply, stands-Union, stands-Intersect, stands-Except, stands-Distinct, stands-Aggregate, stands-Limit}
 use Rattle.query_laws.specs.SameExpressions.{SameAggregates, SameExpr, SameItems}
-use Rattle.rewrite_base.proofs.ClosedSublinks.{closed-Filter, closed-Join, closed-Project, parts-Filter, parts-Join, parts-Project}
-use Rattle.rewrite_base.proofs.Itself.{stands-Table, stands-Single}
-use Rattle.rewrite_base.proofs.Provenance.{stands-Prov}
-use Rattle.rewrite_base.proofs.WithoutPlaces.{rewrite-without_places}
-use Rattle.rewrite_base.specs.OpenSublinks.{NoOpenSublink}
+use Rattle.rewrite_core.proofs.ClosedSublinks.{closed-Filter, closed-Join, closed-Project, parts-Filter, parts-Join, parts-Project}
+use Rattle.rewrite_core.proofs.Itself.{stands-Table, stands-Single}
+use Rattle.rewrite_core.proofs.Provenance.{stands-Prov}
+use Rattle.rewrite_core.proofs.WithoutPlaces.{rewrite-without_places}
+use Rattle.rewrite_core.specs.rewritings.OpenSublinks.{NoOpenSublink}
 use Rattle.rewrite_driver.specs.KeptClosed.{RewritesClosed, StandsClosed, SubsStandClosed}
 
 pub along : {q n : Query} → q ≡ n → NoOpenSublink q → NoOpenSublink n

@@ -4,7 +4,7 @@ use Rattle.bag_algebra.specs.Rewriting.{IsRewrite, Stands}
 use Rattle.bag_algebra.specs.declared.query.Query.{Query}
 use Rattle.bag_algebra.specs.declared.query.Sublink.{Sublink}
 use Rattle.query_laws.specs.Standing.{SubsStand}
-use Rattle.rewrite_base.specs.OpenSublinks.{IsClosedSublink, NoOpenSublink}
+use Rattle.rewrite_core.specs.rewritings.OpenSublinks.{IsClosedSublink, NoOpenSublink}
 use Rattle.rewrite_move.specs.Moved.{SubsTraced}
 
 pub record StandsClosed (q b : Query) : Type 0 where

@@ -3,7 +3,7 @@ ghost use Rattle.std.specs.Prelude.{All, IfOk};
 ghost use Rattle.bag_algebra.specs.Rewriting.{IsRewrite};
 ghost use Rattle.bag_algebra.specs.declared.query.Query.TheVariants.{Join};
 ghost use Rattle.query_laws.specs.Standing.{SubsStand};
-ghost use Rattle.rewrite_base.specs.OpenSublinks.{IsClosedSublink, NoOpenSublink};
+ghost use Rattle.rewrite_core.specs.rewritings.OpenSublinks.{IsClosedSublink, NoOpenSublink};
 ghost use Rattle.rewrite_move.specs.Moved.{SubsTraced};
 
 use bag_algebra::{Expr, JoinKind, Query, Sublink};

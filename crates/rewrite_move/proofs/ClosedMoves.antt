@@ -13,8 +13,8 @@ use Rattle.bag_algebra.specs.declared.query.Sublink.{Sublink}
 use Rattle.contribution.specs.NullItems.{null_item}
 use Rattle.lateral_rewrite.proofs.ClosedContributions.{contributed-closed}
 use Rattle.lateral_rewrite.specs.declared.choices.Choice.{Choice}
-use Rattle.rewrite_base.proofs.ClosedSublinks.{closed-Project}
-use Rattle.rewrite_base.specs.OpenSublinks.{IsClosedSublink, NoOpenSublink}
+use Rattle.rewrite_core.proofs.ClosedSublinks.{closed-Project}
+use Rattle.rewrite_core.specs.rewritings.OpenSublinks.{IsClosedSublink, NoOpenSublink}
 use Rattle.rewrite_move.specs.ForcedTruths.{forces}
 use Rattle.rewrite_move.specs.Moved.{all_moved, matched, moved, moved_by, operand_item, provenance_kinds}
 use Rattle.rewrite_move.specs.Shares.{share_of}

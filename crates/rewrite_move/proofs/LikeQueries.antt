@@ -19,9 +19,9 @@ use Rattle.bag_algebra.specs.declared.query.Sublink.{Sublink}
 use Rattle.bag_algebra.proofs.BagLaws.{member-same_bag}
 use Rattle.query_laws.proofs.SameExpressions.{items-themselves, optional-itself}
 use Rattle.query_laws.proofs.StandingNodes.{stands-Apply, stands-Project}
-use Rattle.rewrite_base.proofs.ClosedSublinks.{closed-Project, parts-Project}
-use Rattle.rewrite_base.proofs.Itself.{stands-itself, stands-onward}
-use Rattle.rewrite_base.specs.KeptColumns.{columns_kept, kept_places}
+use Rattle.rewrite_core.proofs.ClosedSublinks.{closed-Project, parts-Project}
+use Rattle.rewrite_core.proofs.Itself.{stands-itself, stands-onward}
+use Rattle.rewrite_core.specs.rewritings.KeptColumns.{columns_kept, kept_places}
 use Rattle.rewrite_sublink.specs.Candidates.{answer_columns, answer_places, beside_row}
 use Rattle.rewrite_move.proofs.ClosedMoves.{joined-closed}
 use Rattle.rewrite_move.specs.Moved.{Like}

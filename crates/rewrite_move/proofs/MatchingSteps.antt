@@ -49,8 +49,8 @@ use Rattle.lateral_rewrite.specs.Dependent.{beside, compared}
 use Rattle.lateral_rewrite.specs.declared.choices.Choice.{Choice}
 use Rattle.query_laws.proofs.SameExpressions.{tested-formed}
 use Rattle.query_laws.specs.Standing.{SubStands}
-use Rattle.rewrite_base.proofs.Places.{within-range}
-use Rattle.rewrite_base.specs.KeptColumns.{kept_places}
+use Rattle.rewrite_core.proofs.Places.{within-range}
+use Rattle.rewrite_core.specs.rewritings.KeptColumns.{kept_places}
 use Rattle.rewrite_move.proofs.KnownValues.{KnownValue, known-has, matching-chosen_of}
 use Rattle.rewrite_move.specs.Moved.{matching_beside, matching_provenance, operand_item, with_operand}
 use Rattle.rewrite_sublink.proofs.LongerRows.{by, names-begin, subs-named}

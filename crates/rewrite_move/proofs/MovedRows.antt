@@ -15,7 +15,7 @@ use Rattle.contribution.specs.NullItems.{null_item}
 use Rattle.lateral_rewrite.specs.Dependent.{beside, choice_of, chosen_beside, chosen_provenance, contributed, contributed_by, provenance_of, valued, value_items}
 use Rattle.lateral_rewrite.specs.declared.choices.Choice.{Choice}
 use Rattle.query_laws.specs.Standing.{SubStands, SubsStand}
-use Rattle.rewrite_base.specs.KeptColumns.{columns_kept}
+use Rattle.rewrite_core.specs.rewritings.KeptColumns.{columns_kept}
 use Rattle.rewrite_move.proofs.LikeQueries.{like-beside, like-beside_row, like-columns_and, like-columns_kept}
 use Rattle.rewrite_move.specs.ForcedTruths.{forces}
 use Rattle.rewrite_move.specs.Moved.{Like, SubsTraced, all_moved, beside_nulls, matched, matching_beside, matching_provenance, moved, moved_by, operand_item, with_operand}

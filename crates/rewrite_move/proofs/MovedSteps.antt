@@ -35,8 +35,8 @@ use Rattle.lateral_rewrite.specs.declared.choices.Choice.{Choice}
 use Rattle.query_laws.proofs.SameExpressions.{same-itself, items-themselves}
 use Rattle.query_laws.proofs.StandingNodes.{stands-Filter, stands-Project}
 use Rattle.query_laws.specs.Standing.{SubStands, SubsStand}
-use Rattle.rewrite_base.proofs.Itself.{stands-itself}
-use Rattle.rewrite_base.specs.KeptColumns.{kept_places}
+use Rattle.rewrite_core.proofs.Itself.{stands-itself}
+use Rattle.rewrite_core.specs.rewritings.KeptColumns.{kept_places}
 use Rattle.rewrite_move.proofs.BelowGroups.{formed-below, shape-below}
 use Rattle.rewrite_move.proofs.Forcing.{Held, met-held}
 use Rattle.rewrite_move.proofs.KnownValues.{KnownValue, all_known_step, step-known}

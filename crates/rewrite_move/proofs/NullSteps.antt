@@ -28,8 +28,8 @@ use Rattle.bag_algebra.specs.declared.query.Sublink.{Sublink}
 use Rattle.contribution.proofs.Padding.{null_items-kinds, null_items-give, null_items-formed}
 use Rattle.contribution.specs.NullItems.{null_item}
 use Rattle.query_laws.specs.SublinkLists.{Contributes, by_row, by_no_row}
-use Rattle.rewrite_base.proofs.KeptRows.{flat-all_empty, row-width}
-use Rattle.rewrite_base.proofs.Places.{within-range}
+use Rattle.rewrite_core.proofs.KeptRows.{flat-all_empty, row-width}
+use Rattle.rewrite_core.proofs.Places.{within-range}
 use Rattle.rewrite_move.proofs.KnownValues.{KnownValue, known-has, value-is}
 use Rattle.rewrite_move.specs.Moved.{beside_nulls}
 use Rattle.rewrite_sublink.proofs.LongerRows.{by, row-begun}

@@ -11,7 +11,7 @@ use Rattle.contribution.specs.Conjunctions.{always}
 use Rattle.query_laws.proofs.SameExpressions.{same-itself, items-themselves}
 use Rattle.query_laws.proofs.StandingNodes.{stands-Filter, stands-Project}
 use Rattle.query_laws.specs.Standing.{SubsStand}
-use Rattle.rewrite_base.proofs.Itself.{stands-itself}
+use Rattle.rewrite_core.proofs.Itself.{stands-itself}
 use Rattle.rewrite_move.proofs.LikeQueries.{like-itself, like-answer_columns, rewrite-along}
 use Rattle.rewrite_move.proofs.MovedSteps.{filter-moved, project-moved}
 use Rattle.rewrite_move.specs.Moved.{Like, SubsTraced, all_moved}

@@ -14,8 +14,8 @@ use Rattle.bag_algebra.specs.declared.query.Sublink.{Sublink}
 use Rattle.contribution.specs.NullItems.{null_item}
 use Rattle.lateral_rewrite.specs.Dependent.{all_beside, beside, compared, contributed, provenance_of}
 use Rattle.lateral_rewrite.specs.declared.choices.Choice.{Choice}
-use Rattle.rewrite_base.specs.KeptColumns.{columns_kept}
-use Rattle.rewrite_base.specs.OpenSublinks.{NoOpenSublink}
+use Rattle.rewrite_core.specs.rewritings.KeptColumns.{columns_kept}
+use Rattle.rewrite_core.specs.rewritings.OpenSublinks.{NoOpenSublink}
 use Rattle.rewrite_move.specs.ForcedTruths.{forces}
 use Rattle.rewrite_move.specs.Shares.{share_of}
 use Rattle.rewrite_move.specs.declared.share.Share.{Share}

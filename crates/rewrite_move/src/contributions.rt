@@ -19,7 +19,7 @@ use contribution::always;
 use lateral_rewrite::{Choice, choice_of, chosen_provenance, valued};
 use null_logic::Truth;
 use perm_values::{Copyable, NoMemory};
-use rewrite_base::{columns_kept, exact_width};
+use rewrite_core::{columns_kept, exact_width};
 use query_laws::beside;
 use std::alloc::Global;
 

@@ -3,13 +3,13 @@ ghost use Rattle.std.specs.Prelude.{All, IfOk};
 ghost use Rattle.bag_algebra.specs.Rewriting.{IsRewrite};
 ghost use Rattle.bag_algebra.specs.declared.query.Query.TheVariants.{Filter, Project};
 ghost use Rattle.query_laws.specs.Standing.{SubsStand};
-ghost use Rattle.rewrite_base.specs.OpenSublinks.{IsClosedSublink, NoOpenSublink};
+ghost use Rattle.rewrite_core.specs.rewritings.OpenSublinks.{IsClosedSublink, NoOpenSublink};
 ghost use Rattle.rewrite_move.specs.Moved.{SubsTraced};
 
 use crate::contributions::{with_all_contributions, with_contributions};
 use bag_algebra::{Expr, Item, Query, Sublink};
 use perm_values::{List, NoMemory};
-use rewrite_base::exact_width;
+use rewrite_core::exact_width;
 use rewrite_sublink::{answer_columns, own_items, own_rows};
 use std::alloc::Global;
 

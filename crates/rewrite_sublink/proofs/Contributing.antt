@@ -14,9 +14,9 @@ use Rattle.bag_algebra.specs.Kinds.{place_kinds}
 use Rattle.bag_algebra.specs.Means.{Witness, flat, all_empty, cell, is_some_row}
 use Rattle.bag_algebra.specs.declared.place.Place.{Place}
 use Rattle.contribution.proofs.SetsOfNodes.{any_in, from_any}
-use Rattle.rewrite_base.proofs.KeptRows.{nulls-of_rewriting, length-nulls, blank-width}
-use Rattle.rewrite_base.proofs.Places.{at-between}
-use Rattle.rewrite_base.specs.Rewritten.{Beside}
+use Rattle.rewrite_core.proofs.KeptRows.{nulls-of_rewriting, length-nulls, blank-width}
+use Rattle.rewrite_core.proofs.Places.{at-between}
+use Rattle.rewrite_core.specs.rewritings.Rewritten.{Beside}
 
 -- the rows, or one row of NULLs
 abbrev pub padded_rows : ℕ → Bag → Bag

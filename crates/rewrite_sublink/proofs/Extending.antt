@@ -17,14 +17,14 @@ use Rattle.bag_algebra.specs.declared.query.Query.{Query}
 use Rattle.bag_algebra.specs.declared.query.Sublink.{Sublink}
 use Rattle.contribution.proofs.CrossedRows.{all_pairs, every_pair}
 use Rattle.contribution.specs.Conjunctions.{always}
-use Rattle.rewrite_base.specs.KeptColumns.{pairs_of}
+use Rattle.rewrite_core.specs.rewritings.KeptColumns.{pairs_of}
 use Rattle.contribution.proofs.NodeQueries.{meaning-pairs}
 use Rattle.rewrite_sublink.proofs.MatchingRows.{gather-kept}
 use Rattle.rewrite_sublink.proofs.OneSublink.{base-rows, candidate-width, test-good, passing-contributes, contributing-passes, contributing-in_base}
 use Rattle.rewrite_sublink.proofs.LongerRows.{row-begun}
 use Rattle.rewrite_sublink.proofs.Ready.{Ready, stand_of, base_of}
 use Rattle.rewrite_sublink.proofs.Steps.{SubsFitting, Begun, HasValue, Extended, Reached}
-use Rattle.rewrite_base.proofs.KeptRows.{row-width}
+use Rattle.rewrite_core.proofs.KeptRows.{row-width}
 use Rattle.rewrite_sublink.specs.Candidates.{matching, deciding, test_condition, test_subs, contributed}
 use Rattle.query_laws.specs.SublinkLists.{Contributes}
 

@@ -28,12 +28,12 @@ use Rattle.contribution.proofs.GoodRows.{from-gather, from-kept}
 use Rattle.contribution.proofs.JoinMembers.{in-gather, in-kept}
 use Rattle.contribution.proofs.LongerKinds.{has_kind-longer}
 use Rattle.contribution.specs.Fitting.{Fitting}
-use Rattle.rewrite_base.proofs.JoinedOutcomes.{rewritten-from_related}
-use Rattle.rewrite_base.proofs.KeptRewriting.{rewriting-related}
-use Rattle.rewrite_base.proofs.BesideLists.{same-from_rewritten}
-use Rattle.rewrite_base.specs.Rewritten.{Beside}
-use Rattle.rewrite_base.proofs.Faults.{SameFaults, kept-alike, gather-bad_alike}
-use Rattle.rewrite_base.proofs.FlatRows.{Flattened, flattened, row-begins, stands_beside}
+use Rattle.rewrite_core.proofs.JoinedOutcomes.{rewritten-from_related}
+use Rattle.rewrite_core.proofs.KeptRewriting.{rewriting-related}
+use Rattle.rewrite_core.proofs.BesideLists.{same-from_rewritten}
+use Rattle.rewrite_core.specs.rewritings.Rewritten.{Beside}
+use Rattle.rewrite_core.proofs.Faults.{SameFaults, kept-alike, gather-bad_alike}
+use Rattle.rewrite_core.proofs.FlatRows.{Flattened, flattened, row-begins, stands_beside}
 use Rattle.rewrite_sublink.proofs.LongerRows.{by, flat-behind, names-rewriting, subs-named, contributes-longer, contributes-shorter}
 use Rattle.rewrite_sublink.proofs.NodeRows.{first-good, kinds-whole, tables-whole, formed-whole, good-whole, bad-whole, Reaching, reaching-over}
 use Rattle.rewrite_sublink.proofs.Steps.{SubsFitting, HasValues, OnRows, Reached, Steps, StepsGiven}

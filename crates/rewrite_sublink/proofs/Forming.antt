@@ -27,7 +27,7 @@ use Rattle.bag_algebra.specs.declared.query.Sublink.{Sublink}
 use Rattle.contribution.proofs.CrossBases.{meaning-cross_base, kinds_of-cross_base, plain-cross_base, formed-cross_base}
 use Rattle.contribution.proofs.LongerKinds.{NamesAlso, well_formed-longer}
 use Rattle.contribution.specs.Conjunctions.{always}
-use Rattle.rewrite_base.specs.KeptColumns.{pairs_of}
+use Rattle.rewrite_core.specs.rewritings.KeptColumns.{pairs_of}
 use Rattle.bag_algebra.specs.built.Scopes.{all_plain, is_plain-Filter}
 use Rattle.contribution.proofs.ColumnQueries.{all-first, all-nothing, formed-columns}
 use Rattle.contribution.proofs.NodeQueries.{meaning-pairs, formed-pairs, plain-pairs, plain-chosen, plain-projected}

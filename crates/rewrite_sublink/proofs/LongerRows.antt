@@ -22,8 +22,8 @@ use Rattle.contribution.specs.Longer.{more_lists, more_items}
 use Rattle.query_laws.proofs.Contributed.{all_good, each_contributes-from, one_of_each}
 use Rattle.query_laws.proofs.PairedLists.{OneOfEach}
 use Rattle.query_laws.specs.SublinkLists.{EachContributes}
-use Rattle.rewrite_base.proofs.FlatRows.{row-begins}
-use Rattle.rewrite_base.proofs.KeptRows.{flat-append}
+use Rattle.rewrite_core.proofs.FlatRows.{row-begins}
+use Rattle.rewrite_core.proofs.KeptRows.{flat-append}
 use Rattle.rewrite_sublink.proofs.Steps.{SubsFitting, Begun, HasValues}
 
 -- what one type has, an equal one has

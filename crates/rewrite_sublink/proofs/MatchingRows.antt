@@ -19,7 +19,7 @@ use Rattle.bag_algebra.specs.declared.query.Query.{Query}
 use Rattle.bag_algebra.specs.declared.query.Query.TheVariants.{Single}
 use Rattle.contribution.specs.Conjunctions.{always}
 use Rattle.query_laws.proofs.Filtered.{put_before}
-use Rattle.rewrite_base.proofs.Places.{at-between, within-range}
+use Rattle.rewrite_core.proofs.Places.{at-between, within-range}
 use Rattle.contribution.proofs.NodeQueries.{meaning-pairs, meaning-chosen, formed-pairs, formed-chosen}
 use Rattle.rewrite_sublink.proofs.Contributing.{padded_rows, matching_rows}
 use Rattle.contribution.proofs.SameTests.{tests-value, conjunction-formed}

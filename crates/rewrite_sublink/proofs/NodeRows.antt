@@ -19,10 +19,10 @@ use Rattle.bag_algebra.specs.WellFormed.{WellFormed}
 use Rattle.bag_algebra.specs.declared.query.Query.{Query}
 use Rattle.bag_algebra.specs.declared.query.Sublink.{Sublink}
 use Rattle.contribution.specs.Fitting.{Fitting}
-use Rattle.rewrite_base.proofs.FlatRows.{Flattened, beside-flattened}
-use Rattle.rewrite_base.proofs.JoinedOutcomes.{Related}
-use Rattle.rewrite_base.specs.Rewritten.{Beside}
-use Rattle.rewrite_base.proofs.Faults.{SameFaults}
+use Rattle.rewrite_core.proofs.FlatRows.{Flattened, beside-flattened}
+use Rattle.rewrite_core.proofs.JoinedOutcomes.{Related}
+use Rattle.rewrite_core.specs.rewritings.Rewritten.{Beside}
+use Rattle.rewrite_core.proofs.Faults.{SameFaults}
 use Rattle.query_laws.specs.SublinkLists.{EachContributes}
 use Rattle.rewrite_sublink.proofs.Steps.{SubsFitting, Begun, OnRows, Reached, StepsGiven}
 

@@ -26,9 +26,9 @@ use Rattle.contribution.proofs.EntriesAtPlaces.{blank-at}
 use Rattle.contribution.proofs.ListsInBases.{lists-in_cross_base}
 use Rattle.contribution.specs.Fitting.{Fitting}
 use Rattle.contribution.specs.HeldRows.{held_rows}
-use Rattle.rewrite_base.proofs.KeptRows.{row-width}
-use Rattle.rewrite_base.proofs.Places.{at-between}
-use Rattle.rewrite_base.specs.Rewritten.{Beside}
+use Rattle.rewrite_core.proofs.KeptRows.{row-width}
+use Rattle.rewrite_core.proofs.Places.{at-between}
+use Rattle.rewrite_core.specs.rewritings.Rewritten.{Beside}
 use Rattle.rewrite_sublink.proofs.Contributing.{matching_rows, contributions, is_candidate, from-candidate, in-candidate}
 use Rattle.rewrite_sublink.proofs.MatchingRows.{meaning-matching}
 use Rattle.rewrite_sublink.proofs.SublinkRows as under

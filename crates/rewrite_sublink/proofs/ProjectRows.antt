@@ -34,17 +34,17 @@ use Rattle.contribution.proofs.AddedColumns.{columns-added, items_with_subs-same
 use Rattle.contribution.proofs.GoodRows.{from-each}
 use Rattle.contribution.proofs.LongerKinds.{all-kept, has_kind-longer}
 use Rattle.contribution.specs.Fitting.{Fitting}
-use Rattle.rewrite_base.proofs.JoinedOutcomes.{rewritten-from_related}
-use Rattle.rewrite_base.proofs.KeptRewriting.{rewriting-related}
-use Rattle.rewrite_base.proofs.KeptRows.{row-width, list-width}
-use Rattle.rewrite_base.proofs.Places.{at-between, within-range}
+use Rattle.rewrite_core.proofs.JoinedOutcomes.{rewritten-from_related}
+use Rattle.rewrite_core.proofs.KeptRewriting.{rewriting-related}
+use Rattle.rewrite_core.proofs.KeptRows.{row-width, list-width}
+use Rattle.rewrite_core.proofs.Places.{at-between, within-range}
 use Rattle.contribution.proofs.ColumnQueries.{all-first, all-nothing, all-rest, column_items-kinds, kind_there, kinds_of-columns, meaning-columns, formed-columns}
 use Rattle.contribution.proofs.NodeQueries.{plain-projected}
 use Rattle.contribution.specs.ItemKinds.{item_kinds}
-use Rattle.rewrite_base.proofs.BesideLists.{same-from_rewritten}
-use Rattle.rewrite_base.specs.Rewritten.{Beside}
-use Rattle.rewrite_base.proofs.Faults.{SameFaults, same_faults-made, each-bad_alike, in-each}
-use Rattle.rewrite_base.proofs.FlatRows.{Flattened, flattened, row-begins, stands_beside}
+use Rattle.rewrite_core.proofs.BesideLists.{same-from_rewritten}
+use Rattle.rewrite_core.specs.rewritings.Rewritten.{Beside}
+use Rattle.rewrite_core.proofs.Faults.{SameFaults, same_faults-made, each-bad_alike, in-each}
+use Rattle.rewrite_core.proofs.FlatRows.{Flattened, flattened, row-begins, stands_beside}
 use Rattle.rewrite_sublink.proofs.LongerRows.{by, flat-behind, names-rewriting, subs-named, values-longer, contributes-longer, contributes-shorter}
 use Rattle.rewrite_sublink.proofs.NodeRows.{first-of_good, kinds-whole, tables-whole, formed-whole, good-whole, bad-whole, Reaching, reaching-over}
 use Rattle.rewrite_sublink.proofs.Steps.{SubsFitting, HasValues, Reached, Steps}

@@ -26,10 +26,10 @@ use Rattle.contribution.specs.Fitting.{Fitting}
 use Rattle.contribution.specs.SameColumns.{SameColumns}
 use Rattle.query_laws.proofs.SameExpressions.{optional-same}
 use Rattle.query_laws.specs.SameExpressions.{SameOptional}
-use Rattle.rewrite_base.proofs.JoinedOutcomes.{Related}
-use Rattle.rewrite_base.proofs.KeptRewriting.{rewriting-related}
-use Rattle.rewrite_base.proofs.KeptRows.{row-width, list-width}
-use Rattle.rewrite_base.specs.Rewritten.{Beside}
+use Rattle.rewrite_core.proofs.JoinedOutcomes.{Related}
+use Rattle.rewrite_core.proofs.KeptRewriting.{rewriting-related}
+use Rattle.rewrite_core.proofs.KeptRows.{row-width, list-width}
+use Rattle.rewrite_core.specs.rewritings.Rewritten.{Beside}
 use Rattle.rewrite_sublink.proofs.Steps.{SubsFitting, HasValue}
 use Rattle.rewrite_sublink.proofs.TestValues.{passes_of}
 

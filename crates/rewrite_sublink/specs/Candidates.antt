@@ -18,7 +18,7 @@ use Rattle.bag_algebra.specs.declared.query.SubKind.{SubKind}
 use Rattle.bag_algebra.specs.declared.query.SubKind.TheVariants.{Exists, Any, All, Scalar}
 use Rattle.bag_algebra.specs.declared.query.Sublink.{Sublink}
 use Rattle.contribution.specs.CrossBase.{cross_base_of}
-use Rattle.rewrite_base.specs.KeptColumns.{pairs_of}
+use Rattle.rewrite_core.specs.rewritings.KeptColumns.{pairs_of}
 use Rattle.contribution.specs.Conjunctions.{all_hold, always, same_tests}
 
 -- ---- the rows of a sublink that match a candidate

@@ -6,7 +6,7 @@ ghost use Rattle.bag_algebra.specs.declared.expr.Expr.TheVariants.{IsTruth, Sub}
 ghost use Rattle.bag_algebra.specs.declared.query.JoinKind.TheVariants.{Inner};
 ghost use Rattle.contribution.specs.Conjunctions.{always};
 ghost use Rattle.contribution.specs.CrossBase.{cross_base_of};
-ghost use Rattle.rewrite_base.specs.KeptColumns.{pairs_of};
+ghost use Rattle.rewrite_core.specs.rewritings.KeptColumns.{pairs_of};
 ghost use Rattle.bag_algebra.specs.built.Scopes.{all_over_tables};
 ghost use Rattle.rewrite_sublink.specs.Candidates.{all_contributed, contributed, deciding, deciding_arm, exists_in, matching, sub_over, test_condition, test_subs, tested};
 
@@ -16,7 +16,7 @@ use bag_algebra::{Arm, Expr, JoinKind, Query, SubKind, Sublink};
 use contribution::{always, cross_base, join_on};
 use null_logic::Truth;
 use perm_values::{Boxed, Copyable, List, NoMemory};
-use rewrite_base::exact_width;
+use rewrite_core::exact_width;
 use std::alloc::Global;
 
 /// The rows, and for each sublink in turn those rows of its cross base that are one of its contributions.

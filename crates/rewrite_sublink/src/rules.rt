@@ -12,7 +12,7 @@ use crate::candidates::with_contributions;
 use bag_algebra::{Expr, Item, Query, Sublink};
 use contribution::{columns_at, regroup};
 use perm_values::{Copyable, List, NoMemory, both};
-use rewrite_base::{exact_width, sum};
+use rewrite_core::{exact_width, sum};
 use std::alloc::Global;
 
 /// A rewriting of the input's rows on which the condition is true, where sublinks of any kind stand in it: the condition

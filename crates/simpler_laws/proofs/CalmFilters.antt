@@ -32,7 +32,7 @@ use Rattle.bag_algebra.specs.declared.query.SubKind.TheVariants as sub
 use Rattle.bag_algebra.specs.declared.query.Sublink.{Sublink}
 use Rattle.contribution.proofs.WhereGood.{Each}
 use Rattle.contribution.specs.Conjunctions.{all_hold}
-use Rattle.rewrite_base.proofs.Itself.{stands-onward}
+use Rattle.rewrite_core.proofs.Itself.{stands-onward}
 use Rattle.simpler_laws.proofs.Gathered.{filter-good, filter-twice, mapped-twice}
 use Rattle.simpler_laws.proofs.Parting.{two-halves, passed, faultless-passed, have-passed}
 use Rattle.simpler_laws.proofs.Reading.{value-read, kind-read}

@@ -30,7 +30,7 @@ use Rattle.contribution.proofs.QueryKinds.{each-all}
 use Rattle.contribution.proofs.WhereGood.{Each}
 use Rattle.contribution.specs.ItemKinds.{item_kinds}
 use Rattle.contribution.specs.MovedColumns.{PartsMoved}
-use Rattle.rewrite_base.proofs.Itself.{stands-onward}
+use Rattle.rewrite_core.proofs.Itself.{stands-onward}
 use Rattle.simpler_laws.proofs.Gathered.{filter-map, mapped-twice}
 use Rattle.simpler_laws.proofs.Parting.{faultless-moved}
 use Rattle.simpler_laws.proofs.TestedQueries.{by, stands-same, kinds-tested, plain-tested, tables-tested, tables-untested, formed-tested, formed-untested, meaning-tested}

@@ -31,7 +31,7 @@ use Rattle.contribution.proofs.RowKinds.{RowFits, row_fits-length}
 use Rattle.contribution.specs.Conjunctions.{all_hold}
 use Rattle.query_laws.proofs.SameExpressions.{same-itself}
 use Rattle.query_laws.proofs.StandingNodes.{stands-Join}
-use Rattle.rewrite_base.proofs.Itself.{stands-onward}
+use Rattle.rewrite_core.proofs.Itself.{stands-onward}
 use Rattle.simpler_laws.proofs.Gathered.{paired_where, filter-paired, paired-decided, join-good, mapped-both, both-same}
 use Rattle.simpler_laws.proofs.Parting.{three-parts, two-halves, passed, faultless-passed, faultless-moved, have-passed, left-hold, right-hold, left-have, right-have}
 use Rattle.simpler_laws.proofs.TestedQueries.{by, stands-same, kinds-tested, plain-tested, tables-tested, tables-untested, formed-tested, formed-untested, meaning-tested, all-faultless}

@@ -26,7 +26,7 @@ use Rattle.contribution.specs.ItemKinds.{item_kinds}
 use Rattle.query_laws.proofs.SameExpressions.{items-themselves}
 use Rattle.query_laws.proofs.StandingNodes.{stands-Project}
 use Rattle.query_laws.specs.Standing.{SubsStand}
-use Rattle.rewrite_base.proofs.Itself.{stands-onward}
+use Rattle.rewrite_core.proofs.Itself.{stands-onward}
 use Rattle.simpler_laws.proofs.TestedQueries.{by, stands-same}
 use Rattle.simpler_laws.proofs.SubstitutedVariants.{item-value, rest-calm}
 use Rattle.simpler_laws.specs.merged.Substituted.{row_of_items, ItemsSubstituted, IsMerged}

@@ -23,7 +23,7 @@ use Rattle.bag_algebra.specs.declared.expr.Expr.{Expr}
 use Rattle.contribution.proofs.ColumnQueries.{all-nothing, all-first}
 use Rattle.contribution.proofs.WhereGood.{Each}
 use Rattle.contribution.specs.MovedColumns.{IsMoved, PartsMoved}
-use Rattle.rewrite_base.proofs.Places.{at-between, within-range}
+use Rattle.rewrite_core.proofs.Places.{at-between, within-range}
 use Rattle.simpler_laws.proofs.Reading.{value-read, kind-read}
 use Rattle.simpler_laws.specs.Reads.{is_between, reads_only}
 use Rattle.simpler_laws.specs.Sides.{is_left, is_right, is_right_alone, is_of_both, right_places, zeros}

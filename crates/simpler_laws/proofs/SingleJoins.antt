@@ -11,7 +11,7 @@ use Rattle.bag_algebra.specs.declared.query.JoinKind.TheVariants.{Inner}
 use Rattle.bag_algebra.specs.declared.query.Query.{Query}
 use Rattle.bag_algebra.specs.declared.query.Query.TheVariants.{Join, Single}
 use Rattle.contribution.specs.Conjunctions.{all_hold}
-use Rattle.rewrite_base.proofs.Itself.{stands-onward}
+use Rattle.rewrite_core.proofs.Itself.{stands-onward}
 use Rattle.simpler_laws.proofs.Gathered.{paired_where, filter-all}
 use Rattle.simpler_laws.proofs.InnerJoins.{meaning-join, stands-inner}
 use Rattle.simpler_laws.proofs.TestedQueries.{by, stands-same}

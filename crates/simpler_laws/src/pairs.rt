@@ -11,7 +11,7 @@ use crate::conditions::with_conjuncts;
 use bag_algebra::{Expr, Query};
 use contribution::moved;
 use perm_values::{Copyable, List, NoMemory, four};
-use rewrite_base::{exact_width, sum};
+use rewrite_core::{exact_width, sum};
 use std::alloc::Global;
 
 /// Tests of pairs: those that left rows decide alone; those that right rows do, over the columns of these; those that need

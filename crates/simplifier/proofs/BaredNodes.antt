@@ -24,7 +24,7 @@ use Rattle.bag_algebra.specs.declared.query.Sublink.{Sublink}
 use Rattle.query_laws.proofs.SameExpressions.{items-themselves, optional-itself, same-itself}
 use Rattle.query_laws.proofs.StandingNodes.{stands-Filter, stands-Project, stands-Join}
 use Rattle.query_laws.specs.Standing.{SubsStand}
-use Rattle.rewrite_base.proofs.Itself.{stands-itself, stands-onward, stands-Single}
+use Rattle.rewrite_core.proofs.Itself.{stands-itself, stands-onward, stands-Single}
 use Rattle.simpler_laws.proofs.TestedQueries.{by, stands-same}
 use Rattle.simpler_laws.proofs.StandingParts.{where_made}
 use Rattle.simplifier.proofs.BaredSublinks.{bared-answers, bared-form, bared-kinds, bared-plain, bared-tables}

@@ -36,7 +36,7 @@ use Rattle.contribution.proofs.ValueKinds.{fits-begins}
 use Rattle.contribution.proofs.WhereGood.{each-in}
 use Rattle.contribution.specs.Fitting.{Fitting}
 use Rattle.query_laws.proofs.StandingSublinks.{gather-on}
-use Rattle.rewrite_base.proofs.Itself.{stands-onward}
+use Rattle.rewrite_core.proofs.Itself.{stands-onward}
 use Rattle.simpler_laws.proofs.TestedQueries.{by, stands-equal}
 use Rattle.query_laws.proofs.SpineForms.{base-formed, spine-fault_free, spine-faultless, spine-tables}
 use Rattle.query_laws.proofs.SpineRows.{spine_row, spine-rows}

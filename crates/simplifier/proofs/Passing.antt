@@ -14,7 +14,7 @@ use Rattle.bag_algebra.specs.declared.query.Query.{Query}
 use Rattle.bag_algebra.specs.declared.query.Query.TheVariants.{Filter, Join, Project}
 use Rattle.bag_algebra.specs.declared.query.Sublink.{Sublink}
 use Rattle.contribution.specs.Conjunctions.{all_hold}
-use Rattle.rewrite_base.proofs.Itself.{stands-onward}
+use Rattle.rewrite_core.proofs.Itself.{stands-onward}
 use Rattle.simpler_laws.proofs.CalmFilters.{below-faultless, stands-above}
 use Rattle.simpler_laws.proofs.ColumnItems.{lowered-faultless, stands-below}
 use Rattle.simpler_laws.proofs.InnerJoins.{left-faultless, right-faultless, stands-split}

@@ -12,7 +12,7 @@ use crate::asked::{is_on, may_ask};
 use crate::below::spine_below;
 use bag_algebra::{Expr, JoinKind, Query, Sublink, faultless};
 use perm_values::{List, NoMemory};
-use rewrite_base::exact_width;
+use rewrite_core::exact_width;
 use std::alloc::Global;
 
 /// What stands for whatever the query stands for. A LEFT JOIN of the rows where an EXISTS or an ANY is true with the table that it

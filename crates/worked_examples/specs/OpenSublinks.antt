@@ -11,7 +11,7 @@ use Rattle.bag_algebra.specs.declared.query.Query.TheVariants.{Filter}
 use Rattle.bag_algebra.specs.declared.query.SubKind.TheVariants.{Exists}
 use Rattle.bag_algebra.specs.declared.query.Sublink.{Sublink}
 use Rattle.lateral_rewrite.specs.Dependent as dependent
-use Rattle.rewrite_base.specs.OpenSublinks.{IsClosedSublink, NoOpenSublink, NoSublinkReadsOut}
+use Rattle.rewrite_core.specs.rewritings.OpenSublinks.{IsClosedSublink, NoOpenSublink, NoSublinkReadsOut}
 use Rattle.rewrite_sublink.specs.Candidates as candidate
 use Rattle.worked_examples.specs.RewrittenRows.{all_others, exists, isnt, node, s, table, twice}
 

@@ -4,7 +4,7 @@ ghost use Rattle.rewrite_core.specs.ColumnsOf.{ColumnsOf};
 
 use bag_algebra::Query;
 use perm_values::NoMemory;
-use rewrite_base::{exact_width, sum};
+use crate::rewritings::{exact_width, sum};
 
 /// Columns of a set operation and of its left rewriting, which begins with them.
 #[derive(Clone, Copy)]

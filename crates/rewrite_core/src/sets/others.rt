@@ -2,7 +2,7 @@
 ghost use Rattle.std.specs.Prelude.{◌≡◌, IfOk};
 ghost use Rattle.bag_algebra.specs.declared.query.JoinKind.TheVariants.{Inner, Left};
 ghost use Rattle.bag_algebra.specs.declared.query.Query.TheVariants.{Except};
-ghost use Rattle.rewrite_base.specs.KeptColumns.{columns_kept, differs_from_first, pairs_of, same_as_first};
+ghost use Rattle.rewrite_core.specs.rewritings.KeptColumns.{columns_kept, differs_from_first, pairs_of, same_as_first};
 ghost use Rattle.rewrite_core.specs.ColumnsOf.{ColumnsOf};
 ghost use Rattle.rewrite_core.specs.OtherRows.{remaining};
 
@@ -10,7 +10,7 @@ use crate::sets::columns::{Columns, columns_of};
 use bag_algebra::{JoinKind, Query};
 use contribution::join_on;
 use perm_values::NoMemory;
-use rewrite_base::{differs_from_first, join_kept, same_as_first};
+use crate::rewritings::{differs_from_first, join_kept, same_as_first};
 use std::alloc::Global;
 
 /// Rows made for EXCEPT, and the columns of EXCEPT and of its left rewriting.

@@ -40,11 +40,11 @@ use Rattle.query_laws.proofs.JoinLists.{join-lists}
 use Rattle.query_laws.proofs.PairedLists.{none-pass}
 use Rattle.query_laws.specs.ListsOfNodes as law
 use Rattle.query_laws.specs.SublinkLists.{EachContributes, InAnswer}
-use Rattle.rewrite_base.proofs.Faults.{good-mapped}
-use Rattle.rewrite_base.proofs.FlatRows.{Flattened, beside-flattened, flattened}
-use Rattle.rewrite_base.proofs.JoinedOutcomes.{answer-listed}
-use Rattle.rewrite_base.proofs.KeptRows.{flat-all_empty, flat-append, list-width, nulls-append}
-use Rattle.rewrite_base.specs.Rewritten.{Beside, Rewritten}
+use Rattle.rewrite_core.proofs.Faults.{good-mapped}
+use Rattle.rewrite_core.proofs.FlatRows.{Flattened, beside-flattened, flattened}
+use Rattle.rewrite_core.proofs.JoinedOutcomes.{answer-listed}
+use Rattle.rewrite_core.proofs.KeptRows.{flat-all_empty, flat-append, list-width, nulls-append}
+use Rattle.rewrite_core.specs.rewritings.Rewritten.{Beside, Rewritten}
 use Rattle.rewrite_core.proofs.NodeRows.{BothStand, both_good, both_bad, both_stand}
 use Rattle.rewrite_core.proofs.RowColumns.{row-width, width-rewriting}
 use Rattle.rewrite_core.proofs.RuleRows.{beside-from_rewrite, rows-from_beside}

@@ -31,7 +31,7 @@ use Rattle.query_laws.proofs.JoinLists.{join-lists}
 use Rattle.query_laws.proofs.NodeLists.{filter-lists}
 use Rattle.query_laws.specs.ListsOfNodes as law
 use Rattle.query_laws.specs.SublinkLists.{EachContributes, InAnswer, no_sublink}
-use Rattle.rewrite_base.specs.Rewritten.{Rewritten}
+use Rattle.rewrite_core.specs.rewritings.Rewritten.{Rewritten}
 use Rattle.rewrite_core.proofs.RuleRows.{beside-from_rewrite, rows-from_beside}
 use Rattle.rewrite_core.proofs.Unlinked.{none-contribute}
 use Rattle.rewrite_sublink.proofs.LongerRows.{by}

@@ -5,7 +5,7 @@ use Rattle.std.proofs.lemmas.List.Elements.{All-append}
 use Rattle.std.proofs.lemmas.List.FromFn.{length-range_with_len}
 use Rattle.std.specs.List.{range_with_len}
 use Rattle.bag_algebra.specs.WellFormed.{PlacesIn}
-use Rattle.rewrite_base.proofs.Places.{at-between, within-range}
+use Rattle.rewrite_core.proofs.Places.{at-between, within-range}
 use Rattle.rewrite_core.proofs.RowColumns.{behind}
 use Rattle.rewrite_sublink.specs.joins.ByParts.{columns_of_pair, places_in_pair, row_width}
 use Rattle.rewrite_sublink.specs.declared.joins.sides.Side.{Side}

@@ -10,7 +10,7 @@ use Rattle.bag_algebra.specs.declared.query.JoinKind.{JoinKind}
 use Rattle.bag_algebra.specs.declared.query.JoinKind.TheVariants.{Inner, Left, Right, Full}
 use Rattle.bag_algebra.specs.declared.query.Query.{Query, end_of-Sublink}
 use Rattle.contribution.specs.Conjunctions.{all_hold, same_tests}
-use Rattle.rewrite_base.specs.KeptColumns.{pairs_of}
+use Rattle.rewrite_core.specs.rewritings.KeptColumns.{pairs_of}
 use Rattle.rewrite_sublink.specs.declared.joins.sides.Side.{Side}
 
 -- ---- where the columns of a side stand

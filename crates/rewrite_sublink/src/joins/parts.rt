@@ -7,7 +7,7 @@ ghost use Rattle.bag_algebra.specs.declared.query.JoinKind.TheVariants.{Inner, L
 ghost use Rattle.bag_algebra.specs.declared.query.Query.TheVariants.{Filter, Join};
 ghost use Rattle.bag_algebra.specs.declared.query.Sublink.{Sublink};
 ghost use Rattle.contribution.specs.Conjunctions.{always};
-ghost use Rattle.rewrite_base.specs.OpenSublinks.{NoOpenSublink};
+ghost use Rattle.rewrite_core.specs.rewritings.OpenSublinks.{NoOpenSublink};
 ghost use Rattle.rewrite_sublink.specs.joins.ByParts.{by_parts, marked, with_alone};
 
 use crate::joins::sides::{Side, columns_of_pair, is_part, left_side, right_side};

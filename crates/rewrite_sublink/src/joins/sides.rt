@@ -5,7 +5,7 @@ ghost use Rattle.rewrite_sublink.specs.joins.ByParts.{columns_of_pair, is_part, 
 use bag_algebra::{Expr, Query};
 use contribution::same_columns;
 use perm_values::{List, NoMemory};
-use rewrite_base::{exact_width, sum};
+use rewrite_core::{exact_width, sum};
 use std::alloc::Global;
 
 /// The columns of a pair: those before the side's own, these, those between them and the side's provenance, this, and those

@@ -8,7 +8,7 @@ ghost use Rattle.bag_algebra.specs.declared.query.Query.TheVariants.{Filter, Joi
 ghost use Rattle.bag_algebra.specs.declared.query.Sublink.{Sublink};
 ghost use Rattle.contribution.specs.Conjunctions.{always};
 ghost use Rattle.query_laws.specs.Standing.{SubsStand};
-ghost use Rattle.rewrite_base.specs.OpenSublinks.{NoOpenSublink};
+ghost use Rattle.rewrite_core.specs.rewritings.OpenSublinks.{NoOpenSublink};
 ghost use Rattle.rewrite_sublink.specs.SubRewritings.{SubsRewritten};
 
 use crate::joins::parts::join_by_parts;

@@ -23,7 +23,7 @@ use Rattle.bag_algebra.specs.declared.query.Query.TheVariants.{Project}
 use Rattle.contribution.proofs.QueryKinds.{denote-fits, each-all}
 use Rattle.contribution.proofs.RowKinds.{RowFits, row_fits-length}
 use Rattle.contribution.proofs.WhereGood.{Each, WhereGood}
-use Rattle.rewrite_base.proofs.Places.{at-between, within-range}
+use Rattle.rewrite_core.proofs.Places.{at-between, within-range}
 use Rattle.simpler_laws.proofs.ColumnItems.{columns-kinds, columns-within, meaning-columns}
 use Rattle.simpler_laws.proofs.TestedQueries.{by}
 use Rattle.simpler_laws.specs.Lowered.{AreColumns}

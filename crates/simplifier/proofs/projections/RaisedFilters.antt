@@ -24,7 +24,7 @@ use Rattle.bag_algebra.specs.declared.query.Query.TheVariants.{Filter}
 use Rattle.bag_algebra.specs.declared.query.Sublink.{Sublink}
 use Rattle.contribution.proofs.ColumnQueries.{formed-columns, kinds_of-columns, meaning-columns}
 use Rattle.contribution.specs.MovedColumns.{IsMoved}
-use Rattle.rewrite_base.proofs.Itself.{stands-onward}
+use Rattle.rewrite_core.proofs.Itself.{stands-onward}
 use Rattle.simpler_laws.proofs.TestedQueries.{by, stands-equal}
 use Rattle.simplifier.proofs.projections.CarriedSublinks.{carried-answers, carried-form, carried-kinds, carried-plain, carried-tables}
 use Rattle.simplifier.proofs.projections.MadeRows.{filter-made}

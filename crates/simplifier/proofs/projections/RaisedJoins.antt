@@ -28,8 +28,8 @@ use Rattle.contribution.proofs.ColumnQueries.{all-first, all-nothing, all-rest, 
 use Rattle.contribution.proofs.QueryKinds.{denote-fits}
 use Rattle.contribution.proofs.RowKinds.{RowFits, nulls-fit, row_fits-length}
 use Rattle.contribution.specs.MovedColumns.{IsMoved}
-use Rattle.rewrite_base.proofs.Itself.{stands-onward}
-use Rattle.rewrite_base.proofs.Places.{at-moved, at-within}
+use Rattle.rewrite_core.proofs.Itself.{stands-onward}
+use Rattle.rewrite_core.proofs.Places.{at-moved, at-within}
 use Rattle.simpler_laws.proofs.TestedQueries.{by, stands-equal}
 use Rattle.simplifier.proofs.projections.MadeRows.{join-made}
 use Rattle.simplifier.proofs.projections.Picks.{Picks}

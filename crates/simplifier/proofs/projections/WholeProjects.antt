@@ -6,7 +6,7 @@ use Rattle.bag_algebra.specs.Rewriting.{is_plain, Stands}
 use Rattle.bag_algebra.specs.declared.expr.Item.{Item}
 use Rattle.bag_algebra.specs.declared.query.Query.{Query}
 use Rattle.bag_algebra.specs.declared.query.Query.TheVariants.{Project}
-use Rattle.rewrite_base.proofs.Itself.{stands-onward}
+use Rattle.rewrite_core.proofs.Itself.{stands-onward}
 use Rattle.simpler_laws.proofs.TestedQueries.{stands-equal}
 use Rattle.simpler_laws.specs.Lowered.{AreColumns}
 use Rattle.simplifier.proofs.projections.Picks.{picks-columns, picks-itself}

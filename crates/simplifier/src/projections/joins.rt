@@ -11,7 +11,7 @@ use crate::projections::sides::{Side, side_of, under};
 use bag_algebra::{Expr, JoinKind, Query};
 use contribution::{join_on, moved, regroup};
 use perm_values::{List, NoMemory, both};
-use rewrite_base::sum;
+use rewrite_core::sum;
 use std::alloc::Global;
 
 /// The columns above a join, its condition over the pairs below, and which of its sides are projections that it stands below.

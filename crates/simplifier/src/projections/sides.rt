@@ -7,7 +7,7 @@ ghost use Rattle.simplifier.specs.projections.Sides.{IsBelow, IsSide};
 
 use bag_algebra::{Item, Query};
 use perm_values::{List, NoMemory};
-use rewrite_base::exact_width;
+use rewrite_core::exact_width;
 use simpler_laws::{input_of, own_places};
 use std::alloc::Global;
 

@@ -9,7 +9,7 @@ ghost use Rattle.simplifier.specs.projections.Sides.{IsWhole};
 
 use bag_algebra::{Item, Query};
 use perm_values::NoMemory;
-use rewrite_base::exact_width;
+use rewrite_core::exact_width;
 use simpler_laws::{input_of, own_place};
 
 /// What stands for whatever the query stands for. A projection without sublinks to all columns of its input, in their order,

@@ -1,6 +1,6 @@
 use Rattle.std.proofs.Common.{◌≡◌, ◌∙◌, IfOk, ap, subst}
 use Rattle.bag_algebra.specs.declared.query.Query.{Query}
-use Rattle.rewrite_base.specs.KeptColumns.{columns_kept}
+use Rattle.rewrite_core.specs.rewritings.KeptColumns.{columns_kept}
 use Rattle.lateral_rewrite.proofs.contributions.chosen_beside.Goals as goal
 use Rattle.lateral_rewrite.specs.Dependent.{beside, chosen_provenance}
 

@@ -7,7 +7,7 @@ use Rattle.bag_algebra.specs.Rewriting.{IsRewrite}
 use Rattle.bag_algebra.specs.declared.query.Query.{end_of-Sublink}
 use Rattle.bag_algebra.specs.declared.query.Query.TheVariants.{Apply}
 use Rattle.contribution.proofs.NodeQueries.{of_made}
-use Rattle.rewrite_base.specs.OpenSublinks.{NoOpenSublink}
+use Rattle.rewrite_core.specs.rewritings.OpenSublinks.{NoOpenSublink}
 use Rattle.lateral_rewrite.proofs.ApplyRows.{rewrite-Apply}
 use Rattle.lateral_rewrite.proofs.joins.apply.Goals as goal
 use Rattle.lateral_rewrite.specs.Applied.{applied}

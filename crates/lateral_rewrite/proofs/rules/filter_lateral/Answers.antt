@@ -2,8 +2,8 @@ use Rattle.std.proofs.Common.{◌≡◌, ◌∙◌, All, IfOk, length, sym, ap, 
 use Rattle.bag_algebra.specs.Rewriting.{IsRewrite}
 use Rattle.bag_algebra.specs.declared.query.Query.TheVariants.{Filter}
 use Rattle.contribution.proofs.NodeQueries.{of_made}
-use Rattle.rewrite_base.proofs.ClosedSublinks.{closed-Filter}
-use Rattle.rewrite_base.specs.OpenSublinks.{IsClosedSublink, NoOpenSublink}
+use Rattle.rewrite_core.proofs.ClosedSublinks.{closed-Filter}
+use Rattle.rewrite_core.specs.rewritings.OpenSublinks.{IsClosedSublink, NoOpenSublink}
 use Rattle.rewrite_sublink.proofs.Lengths.{stand-length, rewritten-length}
 use Rattle.lateral_rewrite.proofs.ClosedContributions.{all-contributed-closed}
 use Rattle.lateral_rewrite.proofs.WholeRules.{filter-whole}

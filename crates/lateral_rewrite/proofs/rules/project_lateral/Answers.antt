@@ -3,8 +3,8 @@ use Rattle.bag_algebra.specs.Kinds.{width_of}
 use Rattle.bag_algebra.specs.Rewriting.{IsRewrite}
 use Rattle.bag_algebra.specs.declared.query.Query.TheVariants.{Project}
 use Rattle.contribution.proofs.NodeQueries.{of_made}
-use Rattle.rewrite_base.proofs.ClosedSublinks.{closed-Project}
-use Rattle.rewrite_base.specs.OpenSublinks.{IsClosedSublink, NoOpenSublink}
+use Rattle.rewrite_core.proofs.ClosedSublinks.{closed-Project}
+use Rattle.rewrite_core.specs.rewritings.OpenSublinks.{IsClosedSublink, NoOpenSublink}
 use Rattle.rewrite_sublink.proofs.Lengths.{stand-length, rewritten-length}
 use Rattle.rewrite_sublink.specs.Candidates.{answer_columns, beside_row}
 use Rattle.lateral_rewrite.proofs.ClosedContributions.{all-contributed-closed}

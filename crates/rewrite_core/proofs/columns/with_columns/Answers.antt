@@ -5,7 +5,7 @@ use Rattle.bag_algebra.specs.built.Patterns.{ProjectOf}
 use Rattle.bag_algebra.specs.Rewriting.{IsRewrite}
 use Rattle.bag_algebra.specs.declared.query.Query.{Query, end_of-Sublink}
 use Rattle.contribution.proofs.NodeQueries.{of_made}
-use Rattle.rewrite_base.specs.OpenSublinks.{NoOpenSublink}
+use Rattle.rewrite_core.specs.rewritings.OpenSublinks.{NoOpenSublink}
 use Rattle.rewrite_core.proofs.Unprojected.{rewrite-unprojected}
 use Rattle.rewrite_core.proofs.columns.with_columns.Goals as goal
 

@@ -5,8 +5,8 @@ use Rattle.bag_algebra.specs.Rewriting.{IsRewrite, Stands}
 use Rattle.bag_algebra.specs.declared.query.JoinKind.TheVariants.{Left}
 use Rattle.bag_algebra.specs.declared.query.Query.{Query}
 use Rattle.bag_algebra.specs.declared.query.Query.TheVariants.{Aggregate}
-use Rattle.rewrite_base.specs.KeptColumns.{pairs_of, columns_kept}
-use Rattle.rewrite_base.specs.OpenSublinks.{NoOpenSublink}
+use Rattle.rewrite_core.specs.rewritings.KeptColumns.{pairs_of, columns_kept}
+use Rattle.rewrite_core.specs.rewritings.OpenSublinks.{NoOpenSublink}
 use Rattle.contribution.proofs.NodeQueries.{of_made}
 use Rattle.rewrite_core.proofs.AggregateRows.{aggregate-made}
 use Rattle.rewrite_core.specs.SameGroups.{same_groups}

@@ -7,7 +7,7 @@ use Rattle.bag_algebra.specs.Rewriting.{IsRewrite}
 use Rattle.bag_algebra.specs.declared.expr.Expr.{Expr}
 use Rattle.bag_algebra.specs.declared.query.JoinKind.{JoinKind}
 use Rattle.bag_algebra.specs.declared.query.Query.{Query, end_of-Sublink}
-use Rattle.rewrite_base.specs.OpenSublinks.{NoOpenSublink}
+use Rattle.rewrite_core.specs.rewritings.OpenSublinks.{NoOpenSublink}
 use Rattle.rewrite_core.specs.JoinColumns.{IsPaired, IsLaidOut}
 use Rattle.rewrite_core.proofs.joins.laid_out.Goals as goal
 

@@ -4,7 +4,7 @@ use Rattle.bag_algebra.specs.Rewriting.{IsRewrite}
 use Rattle.bag_algebra.specs.declared.query.Query.{end_of-Sublink}
 use Rattle.bag_algebra.specs.declared.query.Query.TheVariants.{Filter}
 use Rattle.contribution.proofs.NodeQueries.{of_made}
-use Rattle.rewrite_base.specs.OpenSublinks.{NoOpenSublink}
+use Rattle.rewrite_core.specs.rewritings.OpenSublinks.{NoOpenSublink}
 use Rattle.rewrite_core.proofs.FilterRows.{rewrite-Filter}
 use Rattle.rewrite_core.proofs.nodes.filter.Goals as goal
 

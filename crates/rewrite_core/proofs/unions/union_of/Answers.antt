@@ -6,7 +6,7 @@ use Rattle.bag_algebra.specs.Rewriting.{IsRewrite}
 use Rattle.bag_algebra.specs.declared.query.Query.{Query}
 use Rattle.bag_algebra.specs.declared.query.Query.TheVariants.{Union}
 use Rattle.contribution.proofs.NodeQueries.{of_made}
-use Rattle.rewrite_base.specs.OpenSublinks.{NoOpenSublink}
+use Rattle.rewrite_core.specs.rewritings.OpenSublinks.{NoOpenSublink}
 use Rattle.rewrite_core.proofs.UnionRows.{rewrite-Union}
 use Rattle.rewrite_core.specs.UnionColumns.{padded_behind, provenance_kinds}
 use Rattle.rewrite_core.proofs.unions.union_of.Goals as goal

@@ -1,6 +1,6 @@
 use Rattle.std.proofs.Common.{subst}
 use Rattle.bag_algebra.specs.Rewriting.{Stands}
-use Rattle.rewrite_base.specs.OpenSublinks.{NoOpenSublink}
+use Rattle.rewrite_core.specs.rewritings.OpenSublinks.{NoOpenSublink}
 use Rattle.rewrite_driver.proofs.NoRowLost.{keeps-rows}
 use Rattle.rewrite_driver.proofs.driver.eliminate.Goals as goal
 use Rattle.rewrite_driver.specs.FirstColumns.{KeepsRows}

@@ -1,5 +1,5 @@
 use Rattle.std.proofs.Common.{All}
-use Rattle.rewrite_base.specs.OpenSublinks.{IsClosedSublink, NoOpenSublink}
+use Rattle.rewrite_core.specs.rewritings.OpenSublinks.{IsClosedSublink, NoOpenSublink}
 use Rattle.rewrite_driver.proofs.MadeQueries.{where_made}
 use Rattle.rewrite_driver.proofs.joins.join_moved.Goals as goal
 

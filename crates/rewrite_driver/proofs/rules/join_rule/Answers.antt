@@ -5,8 +5,8 @@ use Rattle.bag_algebra.specs.declared.query.Query.{Query}
 use Rattle.bag_algebra.specs.declared.query.Query.TheVariants.{Join}
 use Rattle.bag_algebra.specs.declared.query.Sublink.{Sublink}
 use Rattle.perm_values.proofs.Taken.{opened}
-use Rattle.rewrite_base.proofs.ClosedSublinks.{parts-Join}
-use Rattle.rewrite_base.specs.OpenSublinks.{IsClosedSublink}
+use Rattle.rewrite_core.proofs.ClosedSublinks.{parts-Join}
+use Rattle.rewrite_core.specs.rewritings.OpenSublinks.{IsClosedSublink}
 use Rattle.rewrite_driver.proofs.MadeQueries.{both_made, none_left}
 use Rattle.rewrite_driver.proofs.rules.join_rule.Goals as goal
 use Rattle.rewrite_driver.specs.KeptClosed.{RewritesClosed, SubsStandClosed, SubsTracedClosed}

@@ -1,7 +1,7 @@
 use Rattle.std.proofs.Common.{subst₂}
 use Rattle.contribution.proofs.NodeQueries.{of_made}
 use Rattle.lateral_rewrite.specs.Dependent.{chosen_beside}
-use Rattle.rewrite_base.specs.KeptColumns.{columns_kept}
+use Rattle.rewrite_core.specs.rewritings.KeptColumns.{columns_kept}
 use Rattle.rewrite_move.proofs.MovedRows.{chosen-moved}
 use Rattle.rewrite_move.proofs.contributions.beside_chosen.Goals as goal
 use Rattle.rewrite_move.specs.Moved.{Like}

@@ -1,5 +1,5 @@
 use Rattle.std.proofs.Common.{◌≡◌, IfOk, subst₂}
-use Rattle.rewrite_base.specs.KeptColumns.{columns_kept}
+use Rattle.rewrite_core.specs.rewritings.KeptColumns.{columns_kept}
 use Rattle.rewrite_move.proofs.contributions.provenance.Goals as goal
 
 pub returns : goal.returns

@@ -1,6 +1,6 @@
 use Rattle.std.proofs.Common.{subst₂}
 use Rattle.contribution.proofs.NodeQueries.{of_made}
-use Rattle.rewrite_base.specs.KeptColumns.{columns_kept}
+use Rattle.rewrite_core.specs.rewritings.KeptColumns.{columns_kept}
 use Rattle.rewrite_move.proofs.MovedRows.{matching-moved}
 use Rattle.rewrite_move.proofs.known.beside_matching.Goals as goal
 use Rattle.rewrite_move.specs.Moved.{Like, matching_beside}

@@ -1,8 +1,8 @@
 use Rattle.std.proofs.Common.{sym, subst, subst₂, All, IfOk}
 use Rattle.bag_algebra.specs.Rewriting.{IsRewrite}
 use Rattle.bag_algebra.specs.declared.query.Query.TheVariants.{Filter}
-use Rattle.rewrite_base.proofs.ClosedSublinks.{closed-Filter}
-use Rattle.rewrite_base.specs.OpenSublinks.{IsClosedSublink, NoOpenSublink}
+use Rattle.rewrite_core.proofs.ClosedSublinks.{closed-Filter}
+use Rattle.rewrite_core.specs.rewritings.OpenSublinks.{IsClosedSublink, NoOpenSublink}
 use Rattle.rewrite_move.proofs.ClosedMoves.{all-moved-closed}
 use Rattle.rewrite_move.proofs.MovedRows.{kept_ok}
 use Rattle.rewrite_move.proofs.WholeRules.{filter-rewrites, own-rows-like}

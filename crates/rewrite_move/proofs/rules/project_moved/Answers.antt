@@ -4,8 +4,8 @@ use Rattle.bag_algebra.specs.Rewriting.{IsRewrite}
 use Rattle.bag_algebra.specs.declared.query.Query.TheVariants.{Project}
 use Rattle.contribution.proofs.NodeQueries.{of_made}
 use Rattle.contribution.specs.Conjunctions.{always}
-use Rattle.rewrite_base.proofs.ClosedSublinks.{closed-Project}
-use Rattle.rewrite_base.specs.OpenSublinks.{IsClosedSublink, NoOpenSublink}
+use Rattle.rewrite_core.proofs.ClosedSublinks.{closed-Project}
+use Rattle.rewrite_core.specs.rewritings.OpenSublinks.{IsClosedSublink, NoOpenSublink}
 use Rattle.rewrite_move.proofs.ClosedMoves.{all-moved-closed}
 use Rattle.rewrite_move.proofs.WholeRules.{project-rewrites, own-items-like}
 use Rattle.rewrite_move.proofs.rules.project_moved.Goals as goal

@@ -9,7 +9,7 @@ use Rattle.contribution.proofs.NodeQueries.{of_made}
 use Rattle.query_laws.proofs.StandingNodes.{stands-Base}
 use Rattle.query_laws.specs.Standing.{SubsStand}
 use Rattle.bag_algebra.specs.built.Scopes.{all_plain, is_plain-Base, is_plain-Filter, is_plain-Project, is_plain-Join, is_plain-Apply, is_plain-Union, is_plain-Intersect, is_plain-Except, is_plain-Distinct, is_plain-Aggregate, is_plain-Limit, is_plain-Prov}
-use Rattle.rewrite_base.proofs.Itself.{stands-Table, stands-Single}
+use Rattle.rewrite_core.proofs.Itself.{stands-Table, stands-Single}
 use Rattle.simpler_laws.proofs.StandingParts.{stands_made, stands_where, one_of, first_of, second_of, at_each}
 use Rattle.folded_literals.specs.Simple.{is_simple}
 use Rattle.folded_literals.specs.built.Simple.{simple-Apply, simple-Union, simple-Intersect, simple-Except, simple-Limit}

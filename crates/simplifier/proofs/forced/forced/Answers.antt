@@ -7,7 +7,7 @@ use Rattle.contribution.proofs.NodeQueries.{of_made}
 use Rattle.perm_values.proofs.Taken.{opened}
 use Rattle.query_laws.proofs.SameExpressions.{items-themselves}
 use Rattle.query_laws.proofs.StandingNodes.{stands-Project}
-use Rattle.rewrite_base.proofs.Itself.{stands-itself, stands-onward}
+use Rattle.rewrite_core.proofs.Itself.{stands-itself, stands-onward}
 use Rattle.simplifier.proofs.BaredNodes.{themselves}
 use Rattle.simplifier.proofs.forced.forced.Goals as goal
 

@@ -9,7 +9,7 @@ use Rattle.contribution.proofs.Added.{one_more}
 use Rattle.query_laws.proofs.StandingNodes.{stands-Base}
 use Rattle.query_laws.specs.Standing.{SubsStand}
 use Rattle.bag_algebra.specs.built.Scopes.{all_plain, is_plain-Base, is_plain-Filter, is_plain-Project, is_plain-Join, is_plain-Apply, is_plain-Union, is_plain-Intersect, is_plain-Except, is_plain-Distinct, is_plain-Aggregate, is_plain-Limit, is_plain-Prov}
-use Rattle.rewrite_base.proofs.Itself.{stands-Table, stands-Single}
+use Rattle.rewrite_core.proofs.Itself.{stands-Table, stands-Single}
 use Rattle.std.specs.Prelude.{IfSome}
 use Rattle.contribution.specs.Conjunctions.{all_hold}
 use Rattle.simpler_laws.specs.Lowered.{IsLowered}

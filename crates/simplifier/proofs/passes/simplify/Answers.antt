@@ -1,6 +1,6 @@
 use Rattle.std.proofs.Common.{◌≡◌, true}
 use Rattle.bag_algebra.specs.Rewriting.{is_plain, Stands}
-use Rattle.rewrite_base.proofs.Itself.{stands-onward}
+use Rattle.rewrite_core.proofs.Itself.{stands-onward}
 use Rattle.simpler_laws.proofs.StandingParts.{where_made}
 use Rattle.simplifier.proofs.passes.simplify.Goals as goal
 

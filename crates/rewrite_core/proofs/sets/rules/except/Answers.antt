@@ -4,8 +4,8 @@ use Rattle.bag_algebra.specs.Rewriting.{IsRewrite, Stands}
 use Rattle.bag_algebra.specs.declared.query.JoinKind.TheVariants.{Left}
 use Rattle.bag_algebra.specs.declared.query.Query.{Query}
 use Rattle.bag_algebra.specs.declared.query.Query.TheVariants.{Except}
-use Rattle.rewrite_base.specs.KeptColumns.{columns_kept, differs_from_first, pairs_of}
-use Rattle.rewrite_base.specs.OpenSublinks.{NoOpenSublink}
+use Rattle.rewrite_core.specs.rewritings.KeptColumns.{columns_kept, differs_from_first, pairs_of}
+use Rattle.rewrite_core.specs.rewritings.OpenSublinks.{NoOpenSublink}
 use Rattle.contribution.proofs.NodeQueries.{of_made}
 use Rattle.rewrite_core.proofs.ExceptRows.{except-made}
 use Rattle.rewrite_core.specs.OtherRows.{remaining}

@@ -2,8 +2,8 @@ use Rattle.std.proofs.Common.{sym, subst₂}
 use Rattle.bag_algebra.specs.Rewriting.{IsRewrite}
 use Rattle.bag_algebra.specs.declared.query.JoinKind.TheVariants.{Inner}
 use Rattle.bag_algebra.specs.declared.query.Query.TheVariants.{Intersect}
-use Rattle.rewrite_base.specs.KeptColumns.{same_as_first, pairs_of, columns_kept}
-use Rattle.rewrite_base.specs.OpenSublinks.{NoOpenSublink}
+use Rattle.rewrite_core.specs.rewritings.KeptColumns.{same_as_first, pairs_of, columns_kept}
+use Rattle.rewrite_core.specs.rewritings.OpenSublinks.{NoOpenSublink}
 use Rattle.contribution.proofs.NodeQueries.{of_made}
 use Rattle.rewrite_core.proofs.IntersectRows.{intersect-made}
 use Rattle.rewrite_core.proofs.sets.rules.intersect.Goals as goal

@@ -4,8 +4,8 @@ use Rattle.bag_algebra.specs.Rewriting.{IsRewrite, Stands}
 use Rattle.bag_algebra.specs.declared.query.JoinKind.TheVariants.{Inner}
 use Rattle.bag_algebra.specs.declared.query.Query.{Query}
 use Rattle.bag_algebra.specs.declared.query.Query.TheVariants.{Limit}
-use Rattle.rewrite_base.specs.KeptColumns.{same_as_first, pairs_of, columns_kept}
-use Rattle.rewrite_base.specs.OpenSublinks.{NoOpenSublink}
+use Rattle.rewrite_core.specs.rewritings.KeptColumns.{same_as_first, pairs_of, columns_kept}
+use Rattle.rewrite_core.specs.rewritings.OpenSublinks.{NoOpenSublink}
 use Rattle.contribution.proofs.NodeQueries.{of_made}
 use Rattle.rewrite_core.proofs.LimitRows.{limit-made}
 use Rattle.rewrite_core.proofs.sets.rules.limit.Goals as goal

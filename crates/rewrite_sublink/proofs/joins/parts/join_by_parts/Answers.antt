@@ -8,7 +8,7 @@ use Rattle.bag_algebra.specs.declared.query.Query.TheVariants.{Filter, Join}
 use Rattle.bag_algebra.specs.declared.query.Sublink.{Sublink}
 use Rattle.contribution.proofs.NodeQueries.{of_made}
 use Rattle.contribution.specs.Conjunctions.{always}
-use Rattle.rewrite_base.specs.OpenSublinks.{NoOpenSublink}
+use Rattle.rewrite_core.specs.rewritings.OpenSublinks.{NoOpenSublink}
 use Rattle.rewrite_sublink.proofs.joins.ByPartsRows.{rewrite-by_parts}
 use Rattle.rewrite_sublink.specs.joins.ByParts.{by_parts}
 use Rattle.rewrite_sublink.proofs.joins.parts.join_by_parts.Goals as goal

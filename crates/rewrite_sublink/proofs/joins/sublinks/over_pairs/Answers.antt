@@ -9,7 +9,7 @@ use Rattle.bag_algebra.specs.declared.query.Query.TheVariants.{Filter, Join}
 use Rattle.bag_algebra.specs.declared.query.Sublink.{Sublink}
 use Rattle.contribution.specs.Conjunctions.{always}
 use Rattle.perm_values.proofs.Taken.{opened}
-use Rattle.rewrite_base.specs.OpenSublinks.{NoOpenSublink}
+use Rattle.rewrite_core.specs.rewritings.OpenSublinks.{NoOpenSublink}
 use Rattle.rewrite_sublink.proofs.joins.sublinks.over_pairs.Goals as goal
 
 -- what holds for the pairs that could be rewritten

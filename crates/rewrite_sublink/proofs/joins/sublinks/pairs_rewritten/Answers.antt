@@ -1,7 +1,7 @@
 use Rattle.std.proofs.Common.{◌≡◌, IfOk, subst₂}
 use Rattle.bag_algebra.specs.declared.query.Query.{Query}
 use Rattle.perm_values.proofs.Taken.{opened}
-use Rattle.rewrite_base.specs.OpenSublinks.{NoOpenSublink}
+use Rattle.rewrite_core.specs.rewritings.OpenSublinks.{NoOpenSublink}
 use Rattle.rewrite_sublink.proofs.joins.sublinks.pairs_rewritten.Goals as goal
 
 pub returns-clause-none_open : goal.returns-clause-none_open

@@ -1,5 +1,0 @@
-use Rattle.rewrite_base.proofs.ClosedSublinks.{reading-from_closed, closed-from_reading}
-use Rattle.rewrite_base.proofs.laws.closed_sublinks_read_no_outer_row.Goals as goal
-
-pub returns : goal.returns
-returns c outer q formed = (λ h. reading-from_closed q h, λ h. closed-from_reading outer q formed h)

@@ -1,5 +1,0 @@
-use Rattle.rewrite_base.proofs.WithoutPlaces.{rewrite-without_places}
-use Rattle.rewrite_base.proofs.laws.queries_without_places_rewrite_as_what_stands.Goals as goal
-
-pub returns : goal.returns
-returns c q b none stands = rewrite-without_places q b none stands
