@@ -1,2 +1,4 @@
 pub mod Alike
+pub mod AlikeRows
+mod Gathered
 mod Greatest

@@ -1,3 +1,4 @@
 pub mod InUsize
 pub mod Reach
 pub mod built
+pub mod reads
