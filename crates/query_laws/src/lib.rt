@@ -19,8 +19,15 @@ pub use laws::{
     provenance_is_each_row_beside_its_witnesses, single_has_the_empty_row, table_has_its_rows,
     union_adds_counts, what_counts_is_a_member, what_is_bad_meets_a_fault,
 };
-pub use replaced::{a_query_in_place_of_a_table_is_read, a_query_in_place_of_a_table_keeps_the_columns, a_table_may_be_replaced_by_a_query_with_its_rows, queries_in_place_of_tables_are_read, queries_in_place_of_tables_keep_the_columns, tables_in_their_own_places_change_nothing, tables_may_be_replaced_by_queries_with_their_rows, what_does_not_read_a_table_stays};
-pub use spines::{Spine, beside, dependent_joins_over_spines_are_joins, join_spine, placed, spine_of};
+pub use replaced::{
+    a_query_in_place_of_a_table_is_read, a_query_in_place_of_a_table_keeps_the_columns,
+    a_table_may_be_replaced_by_a_query_with_its_rows, queries_in_place_of_tables_are_read,
+    queries_in_place_of_tables_keep_the_columns, tables_in_their_own_places_change_nothing,
+    tables_may_be_replaced_by_queries_with_their_rows, what_does_not_read_a_table_stays,
+};
+pub use spines::{
+    Spine, beside, dependent_joins_over_spines_are_joins, join_spine, placed, spine_of,
+};
 pub use sublinks::{sublinks_come_first, sublinks_have_their_values};
 pub use witnesses::{
     aggregate_lists_its_class, contributions_are_lists_of_chosen_rows,

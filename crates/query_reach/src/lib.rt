@@ -12,4 +12,8 @@ pub use laws::{
     outer_rows_are_read_no_further_than_the_query_reaches,
 };
 pub use outer_rows::is_closed;
-pub use reads::{a_query_means_the_same_where_the_columns_that_it_reads_are_the_same, an_expression_has_one_value_where_the_columns_that_it_reads_are_the_same, nearest_places, rows_with_the_same_values_at_the_places_give_a_query_one_meaning};
+pub use reads::{
+    a_query_means_the_same_where_the_columns_that_it_reads_are_the_same,
+    an_expression_has_one_value_where_the_columns_that_it_reads_are_the_same, nearest_places,
+    rows_with_the_same_values_at_the_places_give_a_query_one_meaning,
+};

@@ -8,10 +8,10 @@ ghost use Rattle.bag_algebra.specs.Rewriting.{IsRewrite};
 ghost use Rattle.bag_algebra.specs.declared.query.Query.{Query, end_of-Sublink};
 ghost use Rattle.rewrite_core.specs.rewritings.OpenSublinks.{NoOpenSublink};
 
+use crate::rewritings::exact_width;
 use bag_algebra::Query;
 use contribution::regroup;
 use perm_values::{List, NoMemory};
-use crate::rewritings::exact_width;
 use std::alloc::Global;
 
 /// The query itself where those are the places of all its columns in order, else the projection to its columns there.

@@ -9,10 +9,10 @@ ghost use Rattle.rewrite_core.specs.rewritings.KeptColumns.{pairs_of, columns_ke
 ghost use Rattle.rewrite_core.specs.rewritings.OpenSublinks.{NoOpenSublink};
 ghost use Rattle.rewrite_core.specs.SameGroups.{same_groups};
 
+use crate::rewritings::{exact_width, join_kept, sum};
 use bag_algebra::{Aggr, Expr, JoinKind, Query};
 use contribution::same_columns;
 use perm_values::{List, NoMemory, both};
-use crate::rewritings::{exact_width, join_kept, sum};
 use std::alloc::Global;
 
 /// A rewriting of the grouping of what the input stands for: each row of the grouping beside the rewriting's rows with the

@@ -9,10 +9,10 @@ ghost use Rattle.rewrite_core.specs.rewritings.OpenSublinks.{NoOpenSublink};
 ghost use Rattle.rewrite_core.specs.JoinColumns.{own_places, added_places, IsPaired, IsLaidOut};
 
 use crate::columns::with_columns;
+use crate::rewritings::{exact_width, sum};
 use bag_algebra::{Expr, JoinKind, Query};
 use contribution::{join_on, moved};
 use perm_values::{List, NoMemory};
-use crate::rewritings::{exact_width, sum};
 use std::alloc::Global;
 
 /// A rewriting of a join of any kind on a condition without sublinks: that join of the rewritings, on the condition with its

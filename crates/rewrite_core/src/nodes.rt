@@ -5,10 +5,10 @@ ghost use Rattle.bag_algebra.specs.declared.query.Query.TheVariants.{Distinct, F
 ghost use Rattle.rewrite_core.specs.rewritings.OpenSublinks.{NoOpenSublink};
 ghost use Rattle.rewrite_core.specs.ProvenanceColumns.{provenance_items};
 
+use crate::rewritings::exact_width;
 use bag_algebra::{Expr, Item, Query};
 use contribution::{columns_at, projection, selection};
 use perm_values::{Copyable, List, NoMemory};
-use crate::rewritings::exact_width;
 use std::alloc::Global;
 
 /// A rewriting of the input's distinct rows: that of the input, since how often a row stands in a rewriting is free. It

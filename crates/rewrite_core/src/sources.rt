@@ -9,9 +9,9 @@ ghost use Rattle.bag_algebra.specs.declared.query.Query.{Query};
 ghost use Rattle.rewrite_core.specs.rewritings.OpenSublinks.{NoOpenSublink};
 
 use crate::columns::with_columns;
+use crate::rewritings::exact_width;
 use bag_algebra::Query;
 use perm_values::{List, NoMemory};
-use crate::rewritings::exact_width;
 use std::alloc::Global;
 
 /// A rewriting of the source with these places over a query for which the input stands: the input's columns, and then those

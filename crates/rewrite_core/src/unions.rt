@@ -11,10 +11,10 @@ ghost use Rattle.rewrite_core.specs.rewritings.OpenSublinks.{NoOpenSublink};
 ghost use Rattle.rewrite_core.specs.rewritings.UnionSides.{before_nulls};
 ghost use Rattle.rewrite_core.specs.UnionColumns.{items_behind, padded_behind, provenance_kinds};
 
+use crate::rewritings::{UnionSide, before_nulls, exact_width};
 use bag_algebra::{Item, Query};
 use contribution::{columns_at, kinds, kinds_at, null_items, projection};
 use perm_values::{Kind, List, NoMemory};
-use crate::rewritings::{UnionSide, before_nulls, exact_width};
 use std::alloc::Global;
 
 /// A rewriting of a union, with all rows or each once, since how often a row stands in a rewriting is free: the rows of both

@@ -19,8 +19,8 @@ use contribution::always;
 use lateral_rewrite::{Choice, choice_of, chosen_provenance, valued};
 use null_logic::Truth;
 use perm_values::{Copyable, NoMemory};
-use rewrite_core::{columns_kept, exact_width};
 use query_laws::beside;
+use rewrite_core::{columns_kept, exact_width};
 use std::alloc::Global;
 
 /// The rows, and for each sublink in turn its contributions, from a rewriting of what is traced for it. The condition is true of each

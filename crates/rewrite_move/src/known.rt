@@ -13,9 +13,9 @@ use bag_algebra::{Expr, Item, Query, Sublink};
 use contribution::{kind_or_text, kinds, kinds_at, null_items, selection};
 use lateral_rewrite::{Choice, compared};
 use perm_values::{Copyable, Kind, List, NoMemory};
+use query_laws::beside;
 use rewrite_core::{columns_kept, exact_width};
 use rewrite_sublink::beside_row;
-use query_laws::beside;
 use std::alloc::Global;
 
 /// The rows beside NULLs in the place of the provenance of the rewriting of a query.

@@ -2,9 +2,9 @@
 ghost use Rattle.std.specs.Prelude.{IfOk};
 ghost use Rattle.rewrite_core.specs.ColumnsOf.{ColumnsOf};
 
+use crate::rewritings::{exact_width, sum};
 use bag_algebra::Query;
 use perm_values::NoMemory;
-use crate::rewritings::{exact_width, sum};
 
 /// Columns of a set operation and of its left rewriting, which begins with them.
 #[derive(Clone, Copy)]

@@ -6,11 +6,11 @@ ghost use Rattle.rewrite_core.specs.rewritings.KeptColumns.{columns_kept, differ
 ghost use Rattle.rewrite_core.specs.ColumnsOf.{ColumnsOf};
 ghost use Rattle.rewrite_core.specs.OtherRows.{remaining};
 
+use crate::rewritings::{differs_from_first, join_kept, same_as_first};
 use crate::sets::columns::{Columns, columns_of};
 use bag_algebra::{JoinKind, Query};
 use contribution::join_on;
 use perm_values::NoMemory;
-use crate::rewritings::{differs_from_first, join_kept, same_as_first};
 use std::alloc::Global;
 
 /// Rows made for EXCEPT, and the columns of EXCEPT and of its left rewriting.

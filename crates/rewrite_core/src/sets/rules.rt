@@ -6,11 +6,11 @@ ghost use Rattle.bag_algebra.specs.declared.query.Query.TheVariants.{Except, Int
 ghost use Rattle.bag_algebra.specs.declared.query.Query.{Query};
 ghost use Rattle.rewrite_core.specs.rewritings.OpenSublinks.{NoOpenSublink};
 
+use crate::rewritings::{exact_width, join_on_first_columns};
 use crate::sets::columns::columns_of;
 use crate::sets::others::{Counted, beside_others, remaining};
 use bag_algebra::Query;
 use perm_values::{Key, List, NoMemory, both};
-use crate::rewritings::{exact_width, join_on_first_columns};
 use std::alloc::Global;
 
 /// A rewriting of the first rows, as many at most, of what the input stands for: the first rows of the input, each beside
