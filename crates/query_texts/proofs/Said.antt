@@ -2,7 +2,7 @@
 use Rattle.std.proofs.Common.{◌≡◌, ◌∙◌, List, [], ◌∷◌, ◌++◌, refl, ap₂, append-nil}
 use Rattle.std.proofs.lemmas.Grind.{flat_map-append}
 use Rattle.sql_lexer.specs.declared.token.Token.{Token}
-use Rattle.sql_grammar.specs.Grammar.{SqlRule}
+use Rattle.sql_tree.specs.grammar.Grammar.{SqlRule}
 use Rattle.tree_texts.specs.plans.Plans.{Plan, a_word, a_choice, a_token, both, before, behind, first, second, front_first, front_second, absent, present, no_more, one_more, one_last, at_start, as_symbol, tokens_of}
 use Rattle.tree_texts.specs.plans.Written.{token_for}
 use Rattle.tree_texts.specs.Texts.{shown, shown_tokens}

@@ -1,21 +1,21 @@
 -- Predicates as their functions read them.
 use Rattle.std.proofs.Common.{◌≡◌, ◌<◌, Bool, true, false, cond, List, [], ◌∷◌, Option, Some, None, is_some, length, inl, inr, refl, ap, ◌∙◌}
 use Rattle.sql_lexer.specs.declared.token.Token.{Token}
-use Rattle.sql_grammar.specs.Building as b
-use Rattle.sql_grammar.specs.Building.{Word}
-use Rattle.sql_grammar.specs.Cursors.{reading, past, one, sees}
-use Rattle.sql_grammar.specs.Descent.{Outcome, Taken, Stopped, and_then, mapped}
-use Rattle.sql_grammar.specs.built.Pieces.{between, by, passes, word_at}
-use Rattle.sql_grammar.specs.Rules.{word, token, symbol, ◌then◌}
-use Rattle.sql_grammar.specs.Symbols as n
-use Rattle.sql_grammar.specs.declared.sort.Sort.TheVariants as s
+use Rattle.sql_tree.specs.grammar.Building as b
+use Rattle.sql_tree.specs.grammar.Building.{Word}
+use Rattle.sql_tree.specs.grammar.Cursors.{reading, past, one, sees}
+use Rattle.sql_tree.specs.grammar.Descent.{Outcome, Taken, Stopped, and_then, mapped}
+use Rattle.sql_tree.specs.grammar.built.Pieces.{between, by, passes, word_at}
+use Rattle.sql_tree.specs.grammar.Rules.{word, token, symbol, ◌then◌}
+use Rattle.sql_tree.specs.grammar.Symbols as n
+use Rattle.sql_tree.specs.declared.grammar.sort.Sort.TheVariants as s
 use Rattle.sql_tree.specs.declared.expression.ExprTree.{ExprTree}
 use Rattle.sql_tree.specs.declared.query.QueryTree.{QueryTree}
 use Rattle.sql_levels.specs.built.Tails as tails
 use Rattle.sql_levels.specs.declared.tail.Tail.TheVariants as tail
-use Rattle.sql_grammar.proofs.Between.{choice_between}
-use Rattle.sql_grammar.proofs.Queries.{choice_of}
-use Rattle.sql_grammar.proofs.Steps.{reading_is, reading-takes}
+use Rattle.sql_tree.proofs.Between.{choice_between}
+use Rattle.sql_tree.proofs.Queries.{choice_of}
+use Rattle.sql_tree.proofs.Steps.{reading_is, reading-takes}
 
 pub sum_takes : (old : List Token) (x : ExprTree) (new : List Token) → reading n.Sum old ≡ Taken x new → length new < length old
 sum_takes = reading-takes n.Sum refl

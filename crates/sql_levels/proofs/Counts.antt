@@ -1,14 +1,14 @@
 -- Words that stand before a part are counted.
 use Rattle.std.proofs.Common.{◌≡◌, ℕ, List, [], ◌∷◌, length, refl, ◌∙◌}
 use Rattle.sql_lexer.specs.declared.token.Token.{Token}
-use Rattle.sql_grammar.specs.Building as b
-use Rattle.sql_grammar.specs.Building.{Word}
-use Rattle.sql_grammar.specs.Cursors.{reading, past, offset}
-use Rattle.sql_grammar.specs.Descent.{Outcome, Taken, Stopped, and_then, mapped}
-use Rattle.sql_grammar.specs.Lists.{all_of}
-use Rattle.sql_grammar.specs.Symbols as n
-use Rattle.sql_grammar.specs.declared.sort.Sort.TheVariants as s
-use Rattle.sql_grammar.proofs.Steps.{reading_is}
+use Rattle.sql_tree.specs.grammar.Building as b
+use Rattle.sql_tree.specs.grammar.Building.{Word}
+use Rattle.sql_tree.specs.grammar.Cursors.{reading, past, offset}
+use Rattle.sql_tree.specs.grammar.Descent.{Outcome, Taken, Stopped, and_then, mapped}
+use Rattle.sql_tree.specs.grammar.Lists.{all_of}
+use Rattle.sql_tree.specs.grammar.Symbols as n
+use Rattle.sql_tree.specs.declared.grammar.sort.Sort.TheVariants as s
+use Rattle.sql_tree.proofs.Steps.{reading_is}
 
 placed-counted : {X Y Z : Type 0} (at : ℕ) (f : ℕ × (X × Y) → Z) (o : Outcome Token X) (next : List Token → Outcome Token Y)
     → mapped f (mapped (λ x. (at, x)) (and_then o (λ x rest. mapped (λ y. (x, y)) (next rest))))

@@ -1,19 +1,18 @@
 //! AND, OR and NOT over predicates.
 
 ghost use Rattle.std.specs.Prelude.{◌≡◌, ◌<◌, ◌≤◌, length, IfOk};
-ghost use Rattle.sql_grammar.specs.Building as b;
-ghost use Rattle.sql_grammar.specs.Cursors as spec;
-ghost use Rattle.sql_grammar.specs.Lists.{more_listed};
-ghost use Rattle.sql_grammar.specs.Nests.{ReadsUpTo};
-ghost use Rattle.sql_grammar.specs.Symbols as n;
-ghost use Rattle.sql_grammar.specs.declared.sort.Sort.TheVariants as s;
+ghost use Rattle.sql_tree.specs.grammar.Building as b;
+ghost use Rattle.sql_tree.specs.grammar.Cursors as spec;
+ghost use Rattle.sql_tree.specs.grammar.Lists.{more_listed};
+ghost use Rattle.sql_tree.specs.grammar.Nests.{ReadsUpTo};
+ghost use Rattle.sql_tree.specs.grammar.Symbols as n;
+ghost use Rattle.sql_tree.specs.declared.grammar.sort.Sort.TheVariants as s;
 ghost use Rattle.sql_tree.specs.declared.expression.ExprBody.TheVariants.{Logic};
 
 use crate::words::words;
 use null_logic::Operator;
 use perm_values::{Boxed, List, NoMemory};
-use sql_grammar::{Cursor, Sort, Unread, list_from, node};
-use sql_tree::{ExprBody, ExprTree};
+use sql_tree::{Cursor, ExprBody, ExprTree, Sort, Unread, list_from, node};
 use std::alloc::Global;
 
 /// The part under as many NOTs; none leave it as it is.

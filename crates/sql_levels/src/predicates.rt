@@ -1,19 +1,18 @@
 //! Comparisons and the other predicates.
 
 ghost use Rattle.std.specs.Prelude.{◌≡◌, ◌<◌, ◌≤◌, length, IfOk};
-ghost use Rattle.sql_grammar.specs.Building as b;
-ghost use Rattle.sql_grammar.specs.Cursors as spec;
-ghost use Rattle.sql_grammar.specs.Nests.{NestReads, ReadsUpTo};
-ghost use Rattle.sql_grammar.specs.Symbols as n;
+ghost use Rattle.sql_tree.specs.grammar.Building as b;
+ghost use Rattle.sql_tree.specs.grammar.Cursors as spec;
+ghost use Rattle.sql_tree.specs.grammar.Nests.{NestReads, ReadsUpTo};
+ghost use Rattle.sql_tree.specs.grammar.Symbols as n;
 ghost use Rattle.sql_levels.specs.built.Tails as tails;
-ghost use Rattle.sql_grammar.specs.declared.sort.Sort.TheVariants as s;
+ghost use Rattle.sql_tree.specs.declared.grammar.sort.Sort.TheVariants as s;
 
 use crate::tail::Tail;
 use null_logic::{Compare, Truth};
 use perm_values::Boxed;
-use sql_grammar::{Cursor, Nest, Sort, Unread, same_sort, sort_of};
+use sql_tree::{Cursor, ExprTree, Nest, QueryTree, Sort, Unread, same_sort, sort_of};
 use sql_lexer::Token;
-use sql_tree::{ExprTree, QueryTree};
 
 const TRUTHS: [Sort; 3] = [Sort::True, Sort::False, Sort::Unknown];
 
@@ -148,7 +147,7 @@ impl<
         Ok((negated, tail))
     }
 
-    #[tactic(auto, using(sql_grammar::proofs::Steps::test_is))]
+    #[tactic(auto, using(sql_tree::proofs::Steps::test_is))]
     pub fn test(&self, cursor: &mut Cursor<'_>) -> Result<Boxed<ExprTree>, Unread>
         requires sums { ReadsUpTo self.now.nest.most n.Sum (S.pre self.now.sum) (S.post self.now.sum) }
         requires sound { NestReads self.now.nest F.pre G.pre F.post G.post }
@@ -202,7 +201,7 @@ impl<
         }
     }
 
-    #[tactic(auto, using(sql_grammar::proofs::Steps::compared_is))]
+    #[tactic(auto, using(sql_tree::proofs::Steps::compared_is))]
     fn compared(&self, cursor: &mut Cursor<'_>) -> Result<Boxed<ExprTree>, Unread>
         requires sums { ReadsUpTo self.now.nest.most n.Sum (S.pre self.now.sum) (S.post self.now.sum) }
         requires sound { NestReads self.now.nest F.pre G.pre F.post G.post }

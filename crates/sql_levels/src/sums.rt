@@ -1,19 +1,18 @@
 //! Arithmetic.
 
 ghost use Rattle.std.specs.Prelude.{◌≡◌, ◌<◌, ◌≤◌, [], ◌∷◌, length, IfOk};
-ghost use Rattle.sql_grammar.specs.Building as b;
-ghost use Rattle.sql_grammar.specs.Cursors as spec;
-ghost use Rattle.sql_grammar.specs.Lists.{all_of};
-ghost use Rattle.sql_grammar.specs.Nests.{ReadsUpTo};
-ghost use Rattle.sql_grammar.specs.Symbols as n;
-ghost use Rattle.sql_grammar.specs.declared.sort.Sort.TheVariants as s;
+ghost use Rattle.sql_tree.specs.grammar.Building as b;
+ghost use Rattle.sql_tree.specs.grammar.Cursors as spec;
+ghost use Rattle.sql_tree.specs.grammar.Lists.{all_of};
+ghost use Rattle.sql_tree.specs.grammar.Nests.{ReadsUpTo};
+ghost use Rattle.sql_tree.specs.grammar.Symbols as n;
+ghost use Rattle.sql_tree.specs.declared.grammar.sort.Sort.TheVariants as s;
 
 use crate::words::words;
 use null_logic::Arith;
 use perm_values::{Boxed, List, NoMemory};
-use sql_grammar::{Cursor, Sort, Unread, all_items, node, same_sort, sort_of};
+use sql_tree::{Cursor, ExprBody, ExprStep, ExprTree, Sort, Unread, all_items, node, same_sort, sort_of};
 use sql_lexer::Token;
-use sql_tree::{ExprBody, ExprStep, ExprTree};
 use std::alloc::Global;
 
 fn arith_of(token: &Token<'_>) -> Arith
@@ -95,7 +94,7 @@ impl<P: Fn(&mut Cursor<'_>) -> Result<Boxed<ExprTree>, Unread>> Sums<P> {
         Ok(signed(cursor.alloc(), at, minuses.len() as u64, part)?)
     }
 
-    #[tactic(auto, using(sql_grammar::proofs::Steps::product_step_is))]
+    #[tactic(auto, using(sql_tree::proofs::Steps::product_step_is))]
     fn product_step(&self, cursor: &mut Cursor<'_>) -> Result<ExprStep, Unread>
         requires sound { ReadsUpTo self.now.most n.Primary
             (P.pre self.now.primary) (P.post self.now.primary) }
@@ -127,7 +126,7 @@ impl<P: Fn(&mut Cursor<'_>) -> Result<Boxed<ExprTree>, Unread>> Sums<P> {
         )
     }
 
-    #[tactic(auto, using(sql_grammar::proofs::Steps::product_is))]
+    #[tactic(auto, using(sql_tree::proofs::Steps::product_is))]
     fn product(&self, cursor: &mut Cursor<'_>) -> Result<Boxed<ExprTree>, Unread>
         requires sound { ReadsUpTo self.now.most n.Primary
             (P.pre self.now.primary) (P.post self.now.primary) }
@@ -140,7 +139,7 @@ impl<P: Fn(&mut Cursor<'_>) -> Result<Boxed<ExprTree>, Unread>> Sums<P> {
         Ok(chain(cursor.alloc(), first, steps)?)
     }
 
-    #[tactic(auto, using(sql_grammar::proofs::Steps::sum_step_is))]
+    #[tactic(auto, using(sql_tree::proofs::Steps::sum_step_is))]
     fn sum_step(&self, cursor: &mut Cursor<'_>) -> Result<ExprStep, Unread>
         requires sound { ReadsUpTo self.now.most n.Primary
             (P.pre self.now.primary) (P.post self.now.primary) }
@@ -172,7 +171,7 @@ impl<P: Fn(&mut Cursor<'_>) -> Result<Boxed<ExprTree>, Unread>> Sums<P> {
         )
     }
 
-    #[tactic(auto, using(sql_grammar::proofs::Steps::sum_is))]
+    #[tactic(auto, using(sql_tree::proofs::Steps::sum_is))]
     pub fn sum(&self, cursor: &mut Cursor<'_>) -> Result<Boxed<ExprTree>, Unread>
         requires sound { ReadsUpTo self.now.most n.Primary
             (P.pre self.now.primary) (P.post self.now.primary) }

@@ -5,8 +5,7 @@ ghost use Rattle.sql_levels.specs.built.Tails as spec;
 
 use null_logic::{Compare, Truth};
 use perm_values::{Boxed, List, NoMemory};
-use sql_grammar::node;
-use sql_tree::{ExprBody, ExprTree, QueryTree};
+use sql_tree::{ExprBody, ExprTree, QueryTree, node};
 use std::alloc::Global;
 
 /// A predicate without its first part.

@@ -1,11 +1,11 @@
 //! Words that stand before a part as often as one likes.
 
 ghost use Rattle.std.specs.Prelude.{◌≡◌, ◌≤◌, [], ◌∷◌, length, IfOk};
-ghost use Rattle.sql_grammar.specs.Cursors as spec;
-ghost use Rattle.sql_grammar.specs.Lists.{all_of};
+ghost use Rattle.sql_tree.specs.grammar.Cursors as spec;
+ghost use Rattle.sql_tree.specs.grammar.Lists.{all_of};
 
 use perm_values::List;
-use sql_grammar::{Cursor, Sort, Unread, all_items};
+use sql_tree::{Cursor, Sort, Unread, all_items};
 
 /// Goes past all of this word that stand next.
 pub(crate) fn words(cursor: &mut Cursor<'_>, word: Sort) -> Result<List<()>, Unread>

@@ -1,12 +1,12 @@
 -- A list of statements as a loop reads it, which keeps those that are there.
 use Rattle.std.proofs.Common.{◌≡◌, true, false, List, [], ◌∷◌, ◌++◌, Option, Some, None, refl, sym, ap, ◌∙◌}
 use Rattle.sql_lexer.specs.declared.token.Token.{Token}
-use Rattle.sql_grammar.specs.Building.{present}
-use Rattle.sql_grammar.specs.Cursors.{past, sees}
-use Rattle.sql_grammar.specs.Descent.{Outcome, Taken, Stopped, mapped}
-use Rattle.sql_grammar.specs.Lists.{listed}
-use Rattle.sql_grammar.specs.declared.sort.Sort.TheVariants.{Semicolon}
-use Rattle.sql_grammar.proofs.Listing.{Keeps, Amid, Amid-first, Amid-next, Amid-stopped, Amid-done, listed-first}
+use Rattle.sql_tree.specs.grammar.Building.{present}
+use Rattle.sql_tree.specs.grammar.Cursors.{past, sees}
+use Rattle.sql_tree.specs.grammar.Descent.{Outcome, Taken, Stopped, mapped}
+use Rattle.sql_tree.specs.grammar.Lists.{listed}
+use Rattle.sql_tree.specs.declared.grammar.sort.Sort.TheVariants.{Semicolon}
+use Rattle.sql_tree.proofs.Listing.{Keeps, Amid, Amid-first, Amid-next, Amid-stopped, Amid-done, listed-first}
 use Rattle.sql_parser.specs.built.Statements.{optional_statement}
 use Rattle.sql_parser.proofs.Stating.{optional_statement-keeps}
 use Rattle.sql_tree.specs.declared.statement.Statement.{Statement}

@@ -1,22 +1,22 @@
 -- A literal that stands alone is an expression.
 use Rattle.std.proofs.Common.{◌≡◌, Bool, true, false, ◌&&◌, List, [], ◌∷◌, refl, sym, ap, ◌∙◌}
 use Rattle.sql_lexer.specs.declared.token.Token.{Token}
-use Rattle.sql_grammar.specs.Building as b
-use Rattle.sql_grammar.specs.Cursors.{reading, past, offset, sees}
-use Rattle.sql_grammar.specs.Descent.{Taken, mapped}
-use Rattle.sql_grammar.specs.Grammar.{sql}
-use Rattle.sql_grammar.specs.built.Pieces.{sees_pair}
-use Rattle.sql_grammar.specs.Sorts.{same_sort}
-use Rattle.sql_grammar.specs.Symbols as n
-use Rattle.sql_grammar.specs.Tables.{begins, sql_tables}
-use Rattle.sql_grammar.specs.declared.sort.Sort.{Sort}
-use Rattle.sql_grammar.specs.declared.sort.Sort.TheVariants as s
+use Rattle.sql_tree.specs.grammar.Building as b
+use Rattle.sql_tree.specs.grammar.Cursors.{reading, past, offset, sees}
+use Rattle.sql_tree.specs.grammar.Descent.{Taken, mapped}
+use Rattle.sql_tree.specs.grammar.Grammar.{sql}
+use Rattle.sql_tree.specs.grammar.built.Pieces.{sees_pair}
+use Rattle.sql_tree.specs.grammar.Sorts.{same_sort}
+use Rattle.sql_tree.specs.grammar.Symbols as n
+use Rattle.sql_tree.specs.grammar.Tables.{begins, sql_tables}
+use Rattle.sql_tree.specs.declared.grammar.sort.Sort.{Sort}
+use Rattle.sql_tree.specs.declared.grammar.sort.Sort.TheVariants as s
 use Rattle.sql_tree.specs.declared.expression.ExprTree.{ExprTree}
-use Rattle.sql_grammar.proofs.Begins.{both_true}
-use Rattle.sql_grammar.proofs.Fine.{apart, apart-law}
-use Rattle.sql_grammar.proofs.Listing.{all_of-done}
-use Rattle.sql_grammar.proofs.Steps.{reading_is}
-use Rattle.sql_grammar.proofs.TablesHold.{told}
+use Rattle.sql_tree.proofs.Begins.{both_true}
+use Rattle.sql_tree.proofs.Fine.{apart, apart-law}
+use Rattle.sql_tree.proofs.Listing.{all_of-done}
+use Rattle.sql_tree.proofs.Steps.{reading_is}
+use Rattle.sql_tree.proofs.TablesHold.{told}
 use Rattle.sql_parser.specs.built.Literals.{ends}
 use Rattle.sql_levels.specs.built.Tails as tails
 use Rattle.sql_levels.proofs.Comparing.{ranged_is}

@@ -1,16 +1,16 @@
 -- Every tree that tokens spell is regular, where no token's number is negative.
 use Rattle.std.proofs.Common.{List}
 use Rattle.sql_lexer.specs.declared.token.Token.{Token}
-use Rattle.sql_grammar.specs.Grammar.{sql}
+use Rattle.sql_tree.specs.grammar.Grammar.{sql}
 use Rattle.sql_parser.specs.Spells.{Spells}
-use Rattle.sql_grammar.specs.Symbols as n
-use Rattle.sql_grammar.specs.Symbols.{Symbol}
-use Rattle.sql_grammar.proofs.Holding.{spelled-holds}
-use Rattle.sql_grammar.proofs.RegularExpressions.{expr-builds, exprs-builds, both-builds, negated-builds, test-builds, is_test-builds, compared-builds, comparison-builds, ranged-builds, range-builds, members-builds, sum-builds, product-builds, sum_step-builds, product_step-builds, sign-builds, primary-builds, literal-builds, cast-builds, case-builds, arm-builds, otherwise-builds, exists-builds, parentheses-builds, count-builds, counted-builds, aggregate-builds, coalesce-builds, null_if-builds, reference-builds}
-use Rattle.sql_grammar.proofs.RegularQueries.{query-builds, inner-builds, in_parentheses-builds, operand-builds, query_rest-builds, term-builds, intersect_step-builds, union_step-builds, order-builds, key-builds, limit-builds, core-builds, items-builds, item-builds, item_value-builds, sources-builds, condition-builds, having-builds, from-builds, join-builds, join_kind-builds, left_join-builds, cross_join-builds, source-builds, aliased-builds, mark-builds}
-use Rattle.sql_grammar.proofs.RegularStatements.{script-builds, statement-builds, create-builds, create_table-builds, create_view-builds, columns-builds, column-builds, column_kind-builds, copy-builds, insert-builds, row-builds, delete-builds, drop-builds, explain-builds, impact-builds, names-builds}
-use Rattle.sql_grammar.proofs.RegularTrees.{RegularOf, Builds}
-use Rattle.sql_grammar.proofs.TokenNumbers.{HasNumber}
+use Rattle.sql_tree.specs.grammar.Symbols as n
+use Rattle.sql_tree.specs.grammar.Symbols.{Symbol}
+use Rattle.sql_tree.proofs.Holding.{spelled-holds}
+use Rattle.sql_tree.proofs.RegularExpressions.{expr-builds, exprs-builds, both-builds, negated-builds, test-builds, is_test-builds, compared-builds, comparison-builds, ranged-builds, range-builds, members-builds, sum-builds, product-builds, sum_step-builds, product_step-builds, sign-builds, primary-builds, literal-builds, cast-builds, case-builds, arm-builds, otherwise-builds, exists-builds, parentheses-builds, count-builds, counted-builds, aggregate-builds, coalesce-builds, null_if-builds, reference-builds}
+use Rattle.sql_tree.proofs.RegularQueries.{query-builds, inner-builds, in_parentheses-builds, operand-builds, query_rest-builds, term-builds, intersect_step-builds, union_step-builds, order-builds, key-builds, limit-builds, core-builds, items-builds, item-builds, item_value-builds, sources-builds, condition-builds, having-builds, from-builds, join-builds, join_kind-builds, left_join-builds, cross_join-builds, source-builds, aliased-builds, mark-builds}
+use Rattle.sql_tree.proofs.RegularStatements.{script-builds, statement-builds, create-builds, create_table-builds, create_view-builds, columns-builds, column-builds, column_kind-builds, copy-builds, insert-builds, row-builds, delete-builds, drop-builds, explain-builds, impact-builds, names-builds}
+use Rattle.sql_tree.proofs.RegularTrees.{RegularOf, Builds}
+use Rattle.sql_tree.proofs.TokenNumbers.{HasNumber}
 use Rattle.sql_tree.specs.Regular.{Each, Regular}
 use Rattle.sql_tree.specs.declared.statement.Script.{Script}
 

@@ -2,21 +2,21 @@
 use Rattle.std.proofs.Common.{◌≡◌, ◌≤◌, Bool, true, false, cond, List, [], ◌∷◌, length, Option, Some, None, refl, sym, ap, ◌∙◌, arith}
 use Rattle.std.specs.Borrow.{Bor}
 use Rattle.sql_lexer.specs.declared.token.Token.{Token}
-use Rattle.sql_grammar.specs.Building as b
-use Rattle.sql_grammar.specs.Cursors.{reading, one, past, offset, sees}
-use Rattle.sql_grammar.specs.Descent.{Outcome, Taken, Stopped, and_then, mapped}
-use Rattle.sql_grammar.specs.Grammar.{build}
-use Rattle.sql_grammar.specs.Lists.{listed}
-use Rattle.sql_grammar.specs.built.Pieces.{passes}
-use Rattle.sql_grammar.specs.built.Sequences.{both}
+use Rattle.sql_tree.specs.grammar.Building as b
+use Rattle.sql_tree.specs.grammar.Cursors.{reading, one, past, offset, sees}
+use Rattle.sql_tree.specs.grammar.Descent.{Outcome, Taken, Stopped, and_then, mapped}
+use Rattle.sql_tree.specs.grammar.Grammar.{build}
+use Rattle.sql_tree.specs.grammar.Lists.{listed}
+use Rattle.sql_tree.specs.grammar.built.Pieces.{passes}
+use Rattle.sql_tree.specs.grammar.built.Sequences.{both}
 use Rattle.sql_parser.specs.built.Statements.{mark_of, marked, null, statement_body, optional_statement, statements}
-use Rattle.sql_grammar.specs.Symbols as n
-use Rattle.sql_grammar.specs.Tables.{begins}
-use Rattle.sql_grammar.specs.declared.sort.Sort.TheVariants as s
+use Rattle.sql_tree.specs.grammar.Symbols as n
+use Rattle.sql_tree.specs.grammar.Tables.{begins}
+use Rattle.sql_tree.specs.declared.grammar.sort.Sort.TheVariants as s
 use Rattle.sql_tree.specs.declared.statement.Statement.{Statement}
 use Rattle.sql_tree.specs.declared.statement.StatementBody.TheVariants as st
-use Rattle.sql_grammar.proofs.Outcomes.{fused, pushed, pulled, nested, chosen}
-use Rattle.sql_grammar.proofs.Steps.{reading_is, reading-keeps}
+use Rattle.sql_tree.proofs.Outcomes.{fused, pushed, pulled, nested, chosen}
+use Rattle.sql_tree.proofs.Steps.{reading_is, reading-keeps}
 
 pub null_mark_is : (null : Option (Bor Token)) → b.null_mark (marked null) ≡ mark_of null
 null_mark_is None = refl

@@ -3,7 +3,7 @@ use Rattle.std.proofs.Common.{◌≡◌, List, [], ◌∷◌, Some, refl}
 use Rattle.std.specs.List.{AllByRecursion}
 use Rattle.null_logic.specs.Operators.{Entry, operator_table}
 use Rattle.sql_lexer.specs.Lexes.{Lexes}
-use Rattle.sql_grammar.specs.Sorts.{word_sort, symbol_sort, same_sort}
+use Rattle.sql_tree.specs.grammar.Sorts.{word_sort, symbol_sort, same_sort}
 use Rattle.sql_parser.specs.Levels.{token_of, Makes, AreReadByTable}
 use Rattle.sql_parser.specs.Texts.{tokens_in}
 use Rattle.sql_parser.proofs.Texts.{tokens-lex}

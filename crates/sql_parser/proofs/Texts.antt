@@ -12,14 +12,14 @@ use Rattle.sql_lexer.specs.Reading.{Front, Nothing, Ends, Refused, next}
 use Rattle.sql_lexer.proofs.Fronts.{and_parts}
 use Rattle.sql_lexer.proofs.OneAnswer.{one_list}
 use Rattle.sql_lexer.proofs.Sound.{IsRead, is_read}
-use Rattle.sql_grammar.specs.Cursors.{reading}
-use Rattle.sql_grammar.specs.Descent.{Outcome, Taken, Stopped}
-use Rattle.sql_grammar.specs.Grammar.{sql}
-use Rattle.sql_grammar.specs.Rules.{symbol, Spelled}
-use Rattle.sql_grammar.specs.Symbols.{Symbol, Tree}
-use Rattle.sql_grammar.specs.Tables.{sql_tables}
-use Rattle.sql_grammar.proofs.Decided.{goes_on, decided}
-use Rattle.sql_grammar.proofs.Exact.{one_value, whole-spelled}
+use Rattle.sql_tree.specs.grammar.Cursors.{reading}
+use Rattle.sql_tree.specs.grammar.Descent.{Outcome, Taken, Stopped}
+use Rattle.sql_tree.specs.grammar.Grammar.{sql}
+use Rattle.sql_tree.specs.grammar.Rules.{symbol, Spelled}
+use Rattle.sql_tree.specs.grammar.Symbols.{Symbol, Tree}
+use Rattle.sql_tree.specs.grammar.Tables.{sql_tables}
+use Rattle.sql_tree.proofs.Decided.{goes_on, decided}
+use Rattle.sql_tree.proofs.Exact.{one_value, whole-spelled}
 use Rattle.sql_parser.specs.Texts.{IsTextOf, is_ascii, before, turned, split, tokens_in, whole, tree_of, tree_in}
 
 abbrev Splits : (ℕ → List ℕ → Option (List Token)) → Type 0

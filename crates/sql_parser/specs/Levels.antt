@@ -12,16 +12,16 @@ use Rattle.sql_lexer.specs.Lexes.{Lexes}
 use Rattle.sql_lexer.specs.declared.token.Token.{Token}
 use Rattle.sql_lexer.specs.declared.token.TokenKind.{TokenKind}
 use Rattle.sql_lexer.specs.declared.token.TokenKind.TheVariants as kind
-use Rattle.sql_grammar.specs.Building as b
-use Rattle.sql_grammar.specs.Descent.{starts}
-use Rattle.sql_grammar.specs.Grammar.{SqlRule, body, build}
-use Rattle.sql_grammar.specs.Rules.{word, token, ◌then◌, ◌or◌, front, optional, many, placed, symbol}
-use Rattle.sql_grammar.specs.Sorts.{sort_of}
-use Rattle.sql_grammar.specs.Symbols as n
-use Rattle.sql_grammar.specs.Symbols.{Symbol}
-use Rattle.sql_grammar.specs.Tables.{empty, begins}
-use Rattle.sql_grammar.specs.declared.sort.Sort.{Sort}
-use Rattle.sql_grammar.specs.declared.sort.Sort.TheVariants as s
+use Rattle.sql_tree.specs.grammar.Building as b
+use Rattle.sql_tree.specs.grammar.Descent.{starts}
+use Rattle.sql_tree.specs.grammar.Grammar.{SqlRule, body, build}
+use Rattle.sql_tree.specs.grammar.Rules.{word, token, ◌then◌, ◌or◌, front, optional, many, placed, symbol}
+use Rattle.sql_tree.specs.grammar.Sorts.{sort_of}
+use Rattle.sql_tree.specs.grammar.Symbols as n
+use Rattle.sql_tree.specs.grammar.Symbols.{Symbol}
+use Rattle.sql_tree.specs.grammar.Tables.{empty, begins}
+use Rattle.sql_tree.specs.declared.grammar.sort.Sort.{Sort}
+use Rattle.sql_tree.specs.declared.grammar.sort.Sort.TheVariants as s
 use Rattle.sql_tree.specs.declared.expression.ExprBody.TheVariants as e
 use Rattle.sql_tree.specs.declared.expression.ExprTree.{ExprTree}
 

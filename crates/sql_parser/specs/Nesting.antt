@@ -1,9 +1,9 @@
 -- How deep a script nests: parentheses and CASEs that are open, of which 64 may be at once.
 use Rattle.std.specs.Prelude.{ℕ, ◌+◌, ◌-◌, nat_lt, if◌then◌else◌, List, [], ◌∷◌, Option, Some, None}
 use Rattle.sql_lexer.specs.declared.token.Token.{Token}
-use Rattle.sql_grammar.specs.Sorts.{sort_of, same_sort}
-use Rattle.sql_grammar.specs.declared.sort.Sort.{Sort}
-use Rattle.sql_grammar.specs.declared.sort.Sort.TheVariants as s
+use Rattle.sql_tree.specs.grammar.Sorts.{sort_of, same_sort}
+use Rattle.sql_tree.specs.declared.grammar.sort.Sort.{Sort}
+use Rattle.sql_tree.specs.declared.grammar.sort.Sort.TheVariants as s
 
 -- one more open where a token opens, one less, if there is one, where it closes
 abbrev pub after : Sort → Sort → Sort → ℕ → ℕ

@@ -1,11 +1,11 @@
 -- What the tokens of a script spell, and the first token with which they begin none.
 use Rattle.std.specs.Prelude.{◌≡◌, ℕ, List, [], ◌∷◌, Some, None, Result, Ok, Err}
 use Rattle.sql_lexer.specs.declared.token.Token.{Token}
-use Rattle.sql_grammar.specs.FirstWrong.{IsFirstWrong}
-use Rattle.sql_grammar.specs.Grammar.{sql}
+use Rattle.sql_tree.specs.grammar.FirstWrong.{IsFirstWrong}
+use Rattle.sql_tree.specs.grammar.Grammar.{sql}
 use Rattle.sql_parser.specs.Nesting.{too_deep}
-use Rattle.sql_grammar.specs.Rules.{symbol, Spelled}
-use Rattle.sql_grammar.specs.Symbols.{ScriptOf}
+use Rattle.sql_tree.specs.grammar.Rules.{symbol, Spelled}
+use Rattle.sql_tree.specs.grammar.Symbols.{ScriptOf}
 use Rattle.sql_parser.specs.declared.syntax_error.SyntaxError.{SyntaxError}
 use Rattle.sql_parser.specs.declared.syntax_error.SyntaxError.TheVariants.{Unexpected, TooDeep, NoMemory}
 use Rattle.sql_tree.specs.declared.statement.Script.{Script}

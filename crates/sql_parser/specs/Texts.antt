@@ -5,12 +5,12 @@ use Rattle.sql_lexer.specs.Bytes.{class_of}
 use Rattle.sql_lexer.specs.Lexes.{Lexes}
 use Rattle.sql_lexer.specs.Reading.{Front, Nothing, Ends, Refused, next, word, number, unquoted, comment_or_symbol}
 use Rattle.sql_lexer.specs.declared.token.Token.{Token}
-use Rattle.sql_grammar.specs.Cursors.{reading}
-use Rattle.sql_grammar.specs.Descent.{Outcome, Taken, Stopped, read, reading_to, repeated}
-use Rattle.sql_grammar.specs.Grammar.{sql}
-use Rattle.sql_grammar.specs.Rules.{symbol, Spelled}
-use Rattle.sql_grammar.specs.Sorts.{word_sort, symbol_sort, same_sort}
-use Rattle.sql_grammar.specs.Symbols.{Symbol, Tree}
+use Rattle.sql_tree.specs.grammar.Cursors.{reading}
+use Rattle.sql_tree.specs.grammar.Descent.{Outcome, Taken, Stopped, read, reading_to, repeated}
+use Rattle.sql_tree.specs.grammar.Grammar.{sql}
+use Rattle.sql_tree.specs.grammar.Rules.{symbol, Spelled}
+use Rattle.sql_tree.specs.grammar.Sorts.{word_sort, symbol_sort, same_sort}
+use Rattle.sql_tree.specs.grammar.Symbols.{Symbol, Tree}
 
 -- the text is split into tokens, and all of them spell the tree of a symbol
 pub record IsTextOf (n : Symbol) (text : List ℕ) (tree : Tree n) : Type 0 where

@@ -1,18 +1,17 @@
 //! The levels of expressions, each over the one below: connectives over predicates, predicates over sums, sums over primaries.
 
 ghost use Rattle.std.specs.Prelude.{◌≡◌, ◌<◌, ◌≤◌, true, length, IfOk};
-ghost use Rattle.sql_grammar.specs.Cursors as spec;
-ghost use Rattle.sql_grammar.specs.Nests.{NestReads};
-ghost use Rattle.sql_grammar.specs.built.Pieces.{sees_pair};
-ghost use Rattle.sql_grammar.specs.Symbols as n;
-ghost use Rattle.sql_grammar.specs.Tables.{begins};
+ghost use Rattle.sql_tree.specs.grammar.Cursors as spec;
+ghost use Rattle.sql_tree.specs.grammar.Nests.{NestReads};
+ghost use Rattle.sql_tree.specs.grammar.built.Pieces.{sees_pair};
+ghost use Rattle.sql_tree.specs.grammar.Symbols as n;
+ghost use Rattle.sql_tree.specs.grammar.Tables.{begins};
 ghost use Rattle.sql_parser.specs.built.Literals.{ends};
 
 use perm_values::Boxed;
-use sql_grammar::{Cursor, Nest, Sort, Unread, node};
+use sql_tree::{Cursor, ExprTree, Nest, QueryTree, Sort, Unread, node};
 use sql_levels::{Connectives, Predicates, Sums};
 use sql_primaries::{LITERALS, Primaries, literal};
-use sql_tree::{ExprTree, QueryTree};
 
 /// What ends an expression in a list or in parentheses.
 const ENDS: [Sort; 2] = [Sort::Comma, Sort::Closing];

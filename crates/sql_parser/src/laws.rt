@@ -3,7 +3,7 @@ ghost use Rattle.sql_lexer.specs.declared.token.Token.{Token};
 ghost use Rattle.sql_lexer.specs.Lexes.{Lexes};
 ghost use Rattle.sql_tree.specs.Regular.{Regular};
 ghost use Rattle.sql_tree.specs.declared.statement.Script.{Script};
-ghost use Rattle.sql_grammar.specs.Symbols.{Symbol, Tree};
+ghost use Rattle.sql_tree.specs.grammar.Symbols.{Symbol, Tree};
 ghost use Rattle.sql_parser.specs.Levels.{AreReadByTable};
 ghost use Rattle.sql_parser.specs.Spells.{Spells, IsUnexpected};
 ghost use Rattle.sql_parser.specs.Texts.{IsTextOf, tree_in};

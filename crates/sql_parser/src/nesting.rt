@@ -2,7 +2,7 @@ ghost use Rattle.std.specs.Prelude.{◌≡◌, ◌<◌, ◌≤◌, ◌+◌};
 ghost use Rattle.sql_parser.specs.Nesting as spec;
 
 use perm_values::List;
-use sql_grammar::{Sort, same_sort, sort_of};
+use sql_tree::{Sort, same_sort, sort_of};
 use sql_lexer::Token;
 
 /// How many parentheses and CASEs may be open at once.

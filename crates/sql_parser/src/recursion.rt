@@ -1,14 +1,13 @@
 //! Expressions hold queries, and queries expressions.
 
 ghost use Rattle.std.specs.Prelude.{◌≡◌, ◌<◌, ◌≤◌, length, IfOk};
-ghost use Rattle.sql_grammar.specs.Cursors as spec;
-ghost use Rattle.sql_grammar.specs.Symbols as n;
+ghost use Rattle.sql_tree.specs.grammar.Cursors as spec;
+ghost use Rattle.sql_tree.specs.grammar.Symbols as n;
 
 use crate::expression::expression;
 use perm_values::Boxed;
-use sql_grammar::{Cursor, Nest, Unread};
+use sql_tree::{Cursor, ExprTree, Nest, QueryTree, Unread};
 use sql_queries::Queries;
-use sql_tree::{ExprTree, QueryTree};
 
 #[cycle(grammar)]
 pub(crate) fn expr(cursor: &mut Cursor<'_>) -> Result<Boxed<ExprTree>, Unread>

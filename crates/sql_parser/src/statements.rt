@@ -1,19 +1,18 @@
 //! Statements.
 
 ghost use Rattle.std.specs.Prelude.{◌≡◌, ◌<◌, ◌≤◌, [], ◌∷◌, ◌++◌, length, IfOk};
-ghost use Rattle.sql_grammar.specs.Building as b;
-ghost use Rattle.sql_grammar.specs.Cursors as spec;
-ghost use Rattle.sql_grammar.specs.Lists.{listed};
+ghost use Rattle.sql_tree.specs.grammar.Building as b;
+ghost use Rattle.sql_tree.specs.grammar.Cursors as spec;
+ghost use Rattle.sql_tree.specs.grammar.Lists.{listed};
 ghost use Rattle.sql_parser.specs.built.Statements as spelled;
-ghost use Rattle.sql_grammar.specs.Symbols as n;
-ghost use Rattle.sql_grammar.specs.declared.sort.Sort.TheVariants as s;
+ghost use Rattle.sql_tree.specs.grammar.Symbols as n;
+ghost use Rattle.sql_tree.specs.declared.grammar.sort.Sort.TheVariants as s;
 
 use crate::recursion::{condition, expr, query};
 use perm_values::{Boxed, Chars, Kind, List, NoMemory};
-use sql_grammar::{Cursor, Sort, Unread, list_of};
+use sql_tree::{ColumnDef, Cursor, ExprTree, Script, Sort, Statement, StatementBody, Unread, ValuesRow, list_of};
 use sql_lexer::Token;
 use sql_primaries::kind_of;
-use sql_tree::{ColumnDef, ExprTree, Script, Statement, StatementBody, ValuesRow};
 use std::alloc::Global;
 
 /// What begins a statement.
@@ -32,7 +31,7 @@ const STATEMENTS: [Sort; 10] = [
 
 const KINDS: [Sort; 4] = [Sort::Integer, Sort::Int, Sort::BigInt, Sort::Text];
 
-#[tactic(auto, using(sql_grammar::proofs::Steps::column_kind_is))]
+#[tactic(auto, using(sql_tree::proofs::Steps::column_kind_is))]
 fn column_kind(cursor: &mut Cursor<'_>) -> Result<Kind, Unread>
     ensures given { spec.Reads result (spec.reading n.ColumnKind cursor.old) cursor.new }
     ensures fewer { IfOk result (λ _. length cursor.new < length cursor.old) }
@@ -40,7 +39,7 @@ fn column_kind(cursor: &mut Cursor<'_>) -> Result<Kind, Unread>
     Ok(kind_of(cursor.one(&KINDS)?))
 }
 
-#[tactic(auto, using(sql_grammar::proofs::Steps::column_is))]
+#[tactic(auto, using(sql_tree::proofs::Steps::column_is))]
 fn column_def(cursor: &mut Cursor<'_>) -> Result<ColumnDef, Unread>
     ensures given { spec.Reads result (spec.reading n.Column cursor.old) cursor.new }
     ensures fewer { IfOk result (λ _. length cursor.new < length cursor.old) }
@@ -115,7 +114,7 @@ fn copy(cursor: &mut Cursor<'_>) -> Result<StatementBody, Unread>
     })
 }
 
-#[tactic(auto, using(sql_grammar::proofs::Steps::drop_is))]
+#[tactic(auto, using(sql_tree::proofs::Steps::drop_is))]
 fn drop_what(cursor: &mut Cursor<'_>) -> Result<StatementBody, Unread>
     ensures given { spec.Reads result (spec.reading n.Drop cursor.old) cursor.new }
     ensures fewer { IfOk result (λ _. length cursor.new < length cursor.old) }
@@ -134,7 +133,7 @@ fn drop_what(cursor: &mut Cursor<'_>) -> Result<StatementBody, Unread>
     }
 }
 
-#[tactic(auto, using(sql_grammar::proofs::Steps::show_is))]
+#[tactic(auto, using(sql_tree::proofs::Steps::show_is))]
 fn show(cursor: &mut Cursor<'_>) -> Result<StatementBody, Unread>
     ensures given { spec.Reads result (spec.reading n.Show cursor.old) cursor.new }
     ensures fewer { IfOk result (λ _. length cursor.new < length cursor.old) }
@@ -146,7 +145,7 @@ fn show(cursor: &mut Cursor<'_>) -> Result<StatementBody, Unread>
     })
 }
 
-#[tactic(auto, using(sql_grammar::proofs::Steps::create_table_is))]
+#[tactic(auto, using(sql_tree::proofs::Steps::create_table_is))]
 fn create_table(cursor: &mut Cursor<'_>) -> Result<StatementBody, Unread>
     ensures given { spec.Reads result (spec.reading n.CreateTable cursor.old) cursor.new }
     ensures fewer { IfOk result (λ _. length cursor.new < length cursor.old) }
@@ -162,7 +161,7 @@ fn create_table(cursor: &mut Cursor<'_>) -> Result<StatementBody, Unread>
     Ok(StatementBody::CreateTableAs { table, query })
 }
 
-#[tactic(auto, using(sql_grammar::proofs::Steps::create_view_is))]
+#[tactic(auto, using(sql_tree::proofs::Steps::create_view_is))]
 fn create_view(cursor: &mut Cursor<'_>) -> Result<StatementBody, Unread>
     ensures given { spec.Reads result (spec.reading n.CreateView cursor.old) cursor.new }
     ensures fewer { IfOk result (λ _. length cursor.new < length cursor.old) }
@@ -174,7 +173,7 @@ fn create_view(cursor: &mut Cursor<'_>) -> Result<StatementBody, Unread>
     Ok(StatementBody::CreateView { view, query })
 }
 
-#[tactic(auto, using(sql_grammar::proofs::Steps::create_is))]
+#[tactic(auto, using(sql_tree::proofs::Steps::create_is))]
 fn create(cursor: &mut Cursor<'_>) -> Result<StatementBody, Unread>
     ensures given { spec.Reads result (spec.reading n.Create cursor.old) cursor.new }
     ensures fewer { IfOk result (λ _. length cursor.new < length cursor.old) }
@@ -197,7 +196,7 @@ fn expressions(cursor: &mut Cursor<'_>) -> Result<List<ExprTree>, Unread>
     })
 }
 
-#[tactic(auto, using(sql_grammar::proofs::Steps::row_is))]
+#[tactic(auto, using(sql_tree::proofs::Steps::row_is))]
 fn row(cursor: &mut Cursor<'_>) -> Result<ValuesRow, Unread>
     ensures given { spec.Reads result (spec.reading n.Row cursor.old) cursor.new }
     ensures fewer { IfOk result (λ _. length cursor.new < length cursor.old) }
@@ -229,7 +228,7 @@ fn insert(cursor: &mut Cursor<'_>) -> Result<StatementBody, Unread>
     Ok(StatementBody::Insert { table, rows })
 }
 
-#[tactic(auto, using(sql_grammar::proofs::Steps::explain_is))]
+#[tactic(auto, using(sql_tree::proofs::Steps::explain_is))]
 fn explain(cursor: &mut Cursor<'_>) -> Result<StatementBody, Unread>
     ensures given { spec.Reads result (spec.reading n.Explain cursor.old) cursor.new }
     ensures fewer { IfOk result (λ _. length cursor.new < length cursor.old) }
@@ -240,7 +239,7 @@ fn explain(cursor: &mut Cursor<'_>) -> Result<StatementBody, Unread>
     Ok(StatementBody::Explain { query })
 }
 
-#[tactic(auto, using(sql_grammar::proofs::Steps::delete_is))]
+#[tactic(auto, using(sql_tree::proofs::Steps::delete_is))]
 fn delete(cursor: &mut Cursor<'_>) -> Result<StatementBody, Unread>
     ensures given { spec.Reads result (spec.reading n.Delete cursor.old) cursor.new }
     ensures fewer { IfOk result (λ _. length cursor.new < length cursor.old) }

@@ -1,16 +1,16 @@
 -- Two expressions with a word between them, as their function reads them.
 use Rattle.std.proofs.Common.{◌≡◌, List, refl, ◌∙◌}
 use Rattle.sql_lexer.specs.declared.token.Token.{Token}
-use Rattle.sql_grammar.specs.Building.{Word}
-use Rattle.sql_grammar.specs.Cursors.{reading, past}
-use Rattle.sql_grammar.specs.Descent.{Outcome, Taken, Stopped, and_then, mapped}
-use Rattle.sql_grammar.specs.Building as b
-use Rattle.sql_grammar.specs.built.Sequences.{value_before}
-use Rattle.sql_grammar.specs.Symbols as n
-use Rattle.sql_grammar.specs.declared.sort.Sort.TheVariants as s
+use Rattle.sql_tree.specs.grammar.Building.{Word}
+use Rattle.sql_tree.specs.grammar.Cursors.{reading, past}
+use Rattle.sql_tree.specs.grammar.Descent.{Outcome, Taken, Stopped, and_then, mapped}
+use Rattle.sql_tree.specs.grammar.Building as b
+use Rattle.sql_tree.specs.grammar.built.Sequences.{value_before}
+use Rattle.sql_tree.specs.grammar.Symbols as n
+use Rattle.sql_tree.specs.declared.grammar.sort.Sort.TheVariants as s
 use Rattle.sql_tree.specs.declared.expression.ExprBody.TheVariants as e
 use Rattle.sql_tree.specs.declared.expression.ExprTree.{ExprTree}
-use Rattle.sql_grammar.proofs.Steps.{reading_is}
+use Rattle.sql_tree.proofs.Steps.{reading_is}
 use Rattle.sql_primaries.specs.built.Calls as spelled
 
 -- what is read of two expressions and the word between them

@@ -1,24 +1,24 @@
 -- Primaries as their functions read them.
 use Rattle.std.proofs.Common.{◌≡◌, ◌⊎◌, Bool, true, false, cond, List, [], ◌∷◌, Option, Some, None, is_some, inl, inr, refl, ap, sym, ◌∙◌}
 use Rattle.sql_lexer.specs.declared.token.Token.{Token}
-use Rattle.sql_grammar.specs.Building as b
-use Rattle.sql_grammar.specs.Building.{Word}
+use Rattle.sql_tree.specs.grammar.Building as b
+use Rattle.sql_tree.specs.grammar.Building.{Word}
 use Rattle.sql_primaries.specs.built.Calls as spelled
 use Rattle.sql_primaries.specs.built.Calls.{arms, primary_body}
-use Rattle.sql_grammar.specs.Cursors.{reading, past, one, offset, sees}
-use Rattle.sql_grammar.specs.Descent.{Outcome, Taken, Stopped, and_then, mapped}
-use Rattle.sql_grammar.specs.built.Pieces.{between, word_at}
-use Rattle.sql_grammar.specs.Grammar.{plain_names}
-use Rattle.sql_grammar.specs.Symbols as n
-use Rattle.sql_grammar.specs.Tables.{begins}
-use Rattle.sql_grammar.specs.declared.sort.Sort.TheVariants as s
+use Rattle.sql_tree.specs.grammar.Cursors.{reading, past, one, offset, sees}
+use Rattle.sql_tree.specs.grammar.Descent.{Outcome, Taken, Stopped, and_then, mapped}
+use Rattle.sql_tree.specs.grammar.built.Pieces.{between, word_at}
+use Rattle.sql_tree.specs.grammar.Grammar.{plain_names}
+use Rattle.sql_tree.specs.grammar.Symbols as n
+use Rattle.sql_tree.specs.grammar.Tables.{begins}
+use Rattle.sql_tree.specs.declared.grammar.sort.Sort.TheVariants as s
 use Rattle.sql_tree.specs.declared.expression.ExprBody.{ExprBody}
 use Rattle.sql_tree.specs.declared.expression.ExprBody.TheVariants as e
 use Rattle.sql_tree.specs.declared.expression.ExprTree.{ExprTree}
-use Rattle.sql_grammar.proofs.Between.{closed, between_is, choice_between}
-use Rattle.sql_grammar.proofs.Outcomes.{fused, pushed, pulled, nested, itself, chosen}
-use Rattle.sql_grammar.proofs.Queries.{choice_of}
-use Rattle.sql_grammar.proofs.Steps.{reading_is}
+use Rattle.sql_tree.proofs.Between.{closed, between_is, choice_between}
+use Rattle.sql_tree.proofs.Outcomes.{fused, pushed, pulled, nested, itself, chosen}
+use Rattle.sql_tree.proofs.Queries.{choice_of}
+use Rattle.sql_tree.proofs.Steps.{reading_is}
 
 pub case_is : (tokens : List Token) → reading n.Case tokens
     ≡ and_then (past s.Case tokens) (λ word first. and_then (arms first) (λ list rest.

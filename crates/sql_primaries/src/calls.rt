@@ -1,17 +1,16 @@
 //! Functions: aggregates, COALESCE and NULLIF, and the names that are none.
 
 ghost use Rattle.std.specs.Prelude.{◌≡◌, ◌<◌, ◌≤◌, length, IfOk};
-ghost use Rattle.sql_grammar.specs.Building as b;
+ghost use Rattle.sql_tree.specs.grammar.Building as b;
 ghost use Rattle.sql_primaries.specs.built.Calls as spelled;
-ghost use Rattle.sql_grammar.specs.Cursors as spec;
-ghost use Rattle.sql_grammar.specs.Nests.{NestReads};
-ghost use Rattle.sql_grammar.specs.Symbols as n;
+ghost use Rattle.sql_tree.specs.grammar.Cursors as spec;
+ghost use Rattle.sql_tree.specs.grammar.Nests.{NestReads};
+ghost use Rattle.sql_tree.specs.grammar.Symbols as n;
 
 use crate::grammar::Primaries;
 use perm_values::{Boxed, List, NoMemory};
-use sql_grammar::{Cursor, Sort, Unread, name_of, reference, same_sort, sort_of};
+use sql_tree::{AggWord, Cursor, ExprBody, ExprTree, Name, QueryTree, Sort, Unread, name_of, reference, same_sort, sort_of};
 use sql_lexer::Token;
-use sql_tree::{AggWord, ExprBody, ExprTree, Name, QueryTree};
 use std::alloc::Global;
 
 /// The names that are no function's word.

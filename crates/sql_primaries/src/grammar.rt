@@ -1,11 +1,10 @@
 ghost use Rattle.std.specs.Prelude.{◌≡◌, ◌<◌, ◌≤◌, length, IfOk};
 ghost use Rattle.sql_primaries.specs.built.Calls as spelled;
-ghost use Rattle.sql_grammar.specs.Cursors as spec;
-ghost use Rattle.sql_grammar.specs.Nests.{NestReads};
+ghost use Rattle.sql_tree.specs.grammar.Cursors as spec;
+ghost use Rattle.sql_tree.specs.grammar.Nests.{NestReads};
 
 use perm_values::Boxed;
-use sql_grammar::{Cursor, Nest, Sort, Unread};
-use sql_tree::{ExprTree, QueryTree};
+use sql_tree::{Cursor, ExprTree, Nest, QueryTree, Sort, Unread};
 
 /// The rules of primaries, over what reads inner expressions and queries.
 #[derive(Clone, Copy)]

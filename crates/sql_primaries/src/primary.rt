@@ -1,20 +1,19 @@
 //! Literals, CAST, CASE, EXISTS, parentheses and functions.
 
 ghost use Rattle.std.specs.Prelude.{◌≡◌, ◌<◌, ◌≤◌, [], ◌∷◌, length, IfOk};
-ghost use Rattle.sql_grammar.specs.Building as b;
+ghost use Rattle.sql_tree.specs.grammar.Building as b;
 ghost use Rattle.sql_primaries.specs.built.Calls as spelled;
-ghost use Rattle.sql_grammar.specs.Cursors as spec;
-ghost use Rattle.sql_grammar.specs.Lists.{all_of};
-ghost use Rattle.sql_grammar.specs.Nests.{NestReads};
-ghost use Rattle.sql_grammar.specs.Symbols as n;
-ghost use Rattle.sql_grammar.specs.declared.sort.Sort.TheVariants as s;
+ghost use Rattle.sql_tree.specs.grammar.Cursors as spec;
+ghost use Rattle.sql_tree.specs.grammar.Lists.{all_of};
+ghost use Rattle.sql_tree.specs.grammar.Nests.{NestReads};
+ghost use Rattle.sql_tree.specs.grammar.Symbols as n;
+ghost use Rattle.sql_tree.specs.declared.grammar.sort.Sort.TheVariants as s;
 
 use crate::calls::column_of;
 use crate::grammar::Primaries;
 use perm_values::{Boxed, Kind, List, NoMemory};
-use sql_grammar::{Cursor, Sort, Unread, all_items, node, same_sort, sort_of};
+use sql_tree::{ArmTree, Cursor, ExprBody, ExprTree, QueryTree, Sort, Unread, all_items, node, same_sort, sort_of};
 use sql_lexer::Token;
-use sql_tree::{ArmTree, ExprBody, ExprTree, QueryTree};
 use std::alloc::Global;
 
 /// What a literal is.
@@ -66,7 +65,7 @@ fn literal_of(alloc: Global, token: &Token<'_>) -> Result<ExprBody, NoMemory>
 }
 
 /// A literal.
-#[tactic(auto, using(sql_grammar::proofs::Steps::literal_is))]
+#[tactic(auto, using(sql_tree::proofs::Steps::literal_is))]
 pub fn literal(cursor: &mut Cursor<'_>) -> Result<ExprBody, Unread>
     ensures given { spec.Reads result (spec.reading n.Literal cursor.old) cursor.new }
     ensures fewer { IfOk result (λ _. length cursor.new < length cursor.old) }
@@ -75,7 +74,7 @@ pub fn literal(cursor: &mut Cursor<'_>) -> Result<ExprBody, Unread>
     Ok(literal_of(cursor.alloc(), token)?)
 }
 
-#[tactic(auto, using(sql_grammar::proofs::Steps::cast_kind_is))]
+#[tactic(auto, using(sql_tree::proofs::Steps::cast_kind_is))]
 fn cast_kind(cursor: &mut Cursor<'_>) -> Result<Kind, Unread>
     ensures given { spec.Reads result (spec.reading n.CastKind cursor.old) cursor.new }
     ensures fewer { IfOk result (λ _. length cursor.new < length cursor.old) }
@@ -83,7 +82,7 @@ fn cast_kind(cursor: &mut Cursor<'_>) -> Result<Kind, Unread>
     Ok(kind_of(cursor.one(&CAST_KINDS)?))
 }
 
-#[tactic(auto, using(sql_grammar::proofs::Steps::cast_is))]
+#[tactic(auto, using(sql_tree::proofs::Steps::cast_is))]
 fn cast(cursor: &mut Cursor<'_>) -> Result<ExprBody, Unread>
     ensures given { spec.Reads result (spec.reading n.Cast cursor.old) cursor.new }
     ensures fewer { IfOk result (λ _. length cursor.new < length cursor.old) }
@@ -142,7 +141,7 @@ impl<
         Ok(arms)
     }
 
-    #[tactic(auto, using(sql_grammar::proofs::Steps::otherwise_is))]
+    #[tactic(auto, using(sql_tree::proofs::Steps::otherwise_is))]
     fn otherwise(&self, cursor: &mut Cursor<'_>) -> Result<Option<Boxed<ExprTree>>, Unread>
         requires sound { NestReads self.now.nest F.pre G.pre F.post G.post }
         requires below { length cursor.old ≤ self.now.nest.most }
@@ -169,7 +168,7 @@ impl<
         cursor.value_before(ExprBody::Case { arms, otherwise }, Sort::End)
     }
 
-    #[tactic(auto, using(sql_grammar::proofs::Steps::exists_is))]
+    #[tactic(auto, using(sql_tree::proofs::Steps::exists_is))]
     fn exists(&self, cursor: &mut Cursor<'_>) -> Result<ExprBody, Unread>
         requires sound { NestReads self.now.nest F.pre G.pre F.post G.post }
         requires below { length cursor.old ≤ self.now.nest.most }

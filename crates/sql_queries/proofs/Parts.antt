@@ -1,16 +1,16 @@
 -- Pieces of rules as their functions read them, part by part.
 use Rattle.std.proofs.Common.{◌≡◌, ℕ, cond, List, Option, Some, is_some, inl, refl, sym, ap, ◌∙◌}
 use Rattle.sql_lexer.specs.declared.token.Token.{Token}
-use Rattle.sql_grammar.specs.Building as b
-use Rattle.sql_grammar.specs.Building.{Word}
-use Rattle.sql_grammar.specs.Cursors.{reading, past, offset}
-use Rattle.sql_grammar.specs.Descent.{Outcome, Taken, Stopped, and_then, mapped}
-use Rattle.sql_grammar.specs.built.Pieces as piece
-use Rattle.sql_grammar.specs.built.Sequences.{both, behind_option, value_before}
-use Rattle.sql_grammar.specs.Grammar.{Given, derived, lateral, left_joined, crossed}
-use Rattle.sql_grammar.specs.Rules.{word, ◌then◌, symbol}
-use Rattle.sql_grammar.specs.Symbols as n
-use Rattle.sql_grammar.specs.declared.sort.Sort.TheVariants as s
+use Rattle.sql_tree.specs.grammar.Building as b
+use Rattle.sql_tree.specs.grammar.Building.{Word}
+use Rattle.sql_tree.specs.grammar.Cursors.{reading, past, offset}
+use Rattle.sql_tree.specs.grammar.Descent.{Outcome, Taken, Stopped, and_then, mapped}
+use Rattle.sql_tree.specs.grammar.built.Pieces as piece
+use Rattle.sql_tree.specs.grammar.built.Sequences.{both, behind_option, value_before}
+use Rattle.sql_tree.specs.grammar.Grammar.{Given, derived, lateral, left_joined, crossed}
+use Rattle.sql_tree.specs.grammar.Rules.{word, ◌then◌, symbol}
+use Rattle.sql_tree.specs.grammar.Symbols as n
+use Rattle.sql_tree.specs.declared.grammar.sort.Sort.TheVariants as s
 use Rattle.sql_queries.specs.built.Sources.{name_behind, marked, sees_lateral, unmarked, source_on, lateral_on}
 use Rattle.sql_tree.specs.declared.expression.ExprTree.{ExprTree}
 use Rattle.sql_tree.specs.declared.name.Name.{Name}
@@ -24,9 +24,9 @@ use Rattle.sql_tree.specs.declared.source.JoinStep.{JoinStep}
 use Rattle.sql_tree.specs.declared.source.JoinWord.{JoinWord}
 use Rattle.sql_tree.specs.declared.source.JoinWord.TheVariants.{Left, Cross, CrossLateral, LeftLateral}
 use Rattle.sql_tree.specs.declared.source.ScopeMark.{ScopeMark}
-use Rattle.sql_grammar.proofs.Outcomes.{fused}
-use Rattle.sql_grammar.proofs.Queries.{choice_of, pair_of}
-use Rattle.sql_grammar.proofs.Steps.{reading_is}
+use Rattle.sql_tree.proofs.Outcomes.{fused}
+use Rattle.sql_tree.proofs.Queries.{choice_of, pair_of}
+use Rattle.sql_tree.proofs.Steps.{reading_is}
 
 -- ---- an inner query as an item
 

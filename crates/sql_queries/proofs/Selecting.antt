@@ -1,13 +1,13 @@
 -- A SELECT as its functions read it.
 use Rattle.std.proofs.Common.{◌≡◌, ℕ, Bool, List, Option, refl, ap, ◌∙◌}
 use Rattle.sql_lexer.specs.declared.token.Token.{Token}
-use Rattle.sql_grammar.specs.Building.{Word}
-use Rattle.sql_grammar.specs.Cursors.{reading, past, offset}
-use Rattle.sql_grammar.specs.Descent.{Outcome, Taken, Stopped, and_then, mapped}
-use Rattle.sql_grammar.specs.built.Pieces as piece
-use Rattle.sql_grammar.specs.Symbols as n
-use Rattle.sql_grammar.specs.declared.sort.Sort.TheVariants as s
-use Rattle.sql_grammar.proofs.Queries as queries
+use Rattle.sql_tree.specs.grammar.Building.{Word}
+use Rattle.sql_tree.specs.grammar.Cursors.{reading, past, offset}
+use Rattle.sql_tree.specs.grammar.Descent.{Outcome, Taken, Stopped, and_then, mapped}
+use Rattle.sql_tree.specs.grammar.built.Pieces as piece
+use Rattle.sql_tree.specs.grammar.Symbols as n
+use Rattle.sql_tree.specs.declared.grammar.sort.Sort.TheVariants as s
+use Rattle.sql_tree.proofs.Queries as queries
 use Rattle.sql_queries.specs.built.Selects.{clauses_of, clauses, core_of, head}
 use Rattle.sql_tree.specs.declared.expression.ExprTree.{ExprTree}
 use Rattle.sql_tree.specs.declared.name.ColRef.{ColRef}

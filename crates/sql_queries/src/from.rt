@@ -1,20 +1,17 @@
 //! FROM and its joins (ISO/IEC 9075-2, 'table reference').
 
 ghost use Rattle.std.specs.Prelude.{◌≡◌, ◌<◌, ◌≤◌, length, IfOk};
-ghost use Rattle.sql_grammar.specs.Building as b;
-ghost use Rattle.sql_grammar.specs.Cursors as spec;
-ghost use Rattle.sql_grammar.specs.Nests.{NestReads};
-ghost use Rattle.sql_grammar.specs.built.Pieces as piece;
-ghost use Rattle.sql_grammar.specs.Symbols as n;
+ghost use Rattle.sql_tree.specs.grammar.Building as b;
+ghost use Rattle.sql_tree.specs.grammar.Cursors as spec;
+ghost use Rattle.sql_tree.specs.grammar.Nests.{NestReads};
+ghost use Rattle.sql_tree.specs.grammar.built.Pieces as piece;
+ghost use Rattle.sql_tree.specs.grammar.Symbols as n;
 ghost use Rattle.sql_queries.specs.built.Sources as spelled;
 
 use crate::grammar::Queries;
 use perm_values::{Boxed, List, NoMemory};
-use sql_grammar::{Cursor, NAMES, Sort, Unread, all_items, list_of, same_sort, sort_of};
+use sql_tree::{Cursor, ExprTree, FromItem, FromSource, FromTree, JoinStep, JoinWord, NAMES, Name, QueryTree, ScopeMark, Sort, Unread, all_items, list_of, same_sort, sort_of};
 use sql_lexer::Token;
-use sql_tree::{
-    ExprTree, FromItem, FromSource, FromTree, JoinStep, JoinWord, Name, QueryTree, ScopeMark,
-};
 use std::alloc::Global;
 
 /// The name of an inner query, behind the parenthesis that closes it.
@@ -100,7 +97,7 @@ impl<
         Ok((FromSource::Inner(query), Some(name)))
     }
 
-    #[tactic(auto, using(sql_grammar::proofs::Queries::aliased_is))]
+    #[tactic(auto, using(sql_tree::proofs::Queries::aliased_is))]
     fn aliased(&self, cursor: &mut Cursor<'_>) -> Result<(FromSource, Option<Name>), Unread>
         requires sound { NestReads self.now.nest F.pre G.pre F.post G.post }
         requires below { length cursor.old ≤ self.now.nest.most }
@@ -236,7 +233,7 @@ impl<
         self.crossed(cursor)
     }
 
-    #[tactic(auto, using(sql_grammar::proofs::Queries::join_is))]
+    #[tactic(auto, using(sql_tree::proofs::Queries::join_is))]
     fn join(&self, cursor: &mut Cursor<'_>) -> Result<JoinStep, Unread>
         requires sound { NestReads self.now.nest F.pre G.pre F.post G.post }
         requires below { length cursor.old ≤ self.now.nest.most }
@@ -272,7 +269,7 @@ impl<
         )
     }
 
-    #[tactic(auto, using(sql_grammar::proofs::Queries::from_is))]
+    #[tactic(auto, using(sql_tree::proofs::Queries::from_is))]
     fn from_tree(&self, cursor: &mut Cursor<'_>) -> Result<FromTree, Unread>
         requires sound { NestReads self.now.nest F.pre G.pre F.post G.post }
         requires below { length cursor.old ≤ self.now.nest.most }
@@ -300,7 +297,7 @@ impl<
         )
     }
 
-    #[tactic(auto, using(sql_grammar::proofs::Queries::sources_is))]
+    #[tactic(auto, using(sql_tree::proofs::Queries::sources_is))]
     pub(crate) fn sources(&self, cursor: &mut Cursor<'_>) -> Result<List<FromTree>, Unread>
         requires sound { NestReads self.now.nest F.pre G.pre F.post G.post }
         requires below { length cursor.old ≤ self.now.nest.most }

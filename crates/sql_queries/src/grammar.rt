@@ -1,4 +1,4 @@
-use sql_grammar::Nest;
+use sql_tree::Nest;
 
 /// The rules of queries, over what reads expressions and inner queries.
 #[derive(Clone, Copy)]

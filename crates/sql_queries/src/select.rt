@@ -1,18 +1,17 @@
 //! The parts of a SELECT (ISO/IEC 9075-2, 'query specification').
 
 ghost use Rattle.std.specs.Prelude.{◌≡◌, ◌<◌, ◌≤◌, length, IfOk};
-ghost use Rattle.sql_grammar.specs.Building as b;
-ghost use Rattle.sql_grammar.specs.Cursors as spec;
-ghost use Rattle.sql_grammar.specs.Nests.{NestReads};
-ghost use Rattle.sql_grammar.specs.built.Pieces as piece;
-ghost use Rattle.sql_grammar.specs.Symbols as n;
+ghost use Rattle.sql_tree.specs.grammar.Building as b;
+ghost use Rattle.sql_tree.specs.grammar.Cursors as spec;
+ghost use Rattle.sql_tree.specs.grammar.Nests.{NestReads};
+ghost use Rattle.sql_tree.specs.grammar.built.Pieces as piece;
+ghost use Rattle.sql_tree.specs.grammar.Symbols as n;
 ghost use Rattle.sql_queries.specs.built.Selects as spelled;
 
 use crate::grammar::Queries;
 use perm_values::{Boxed, Copyable, List, NoMemory};
-use sql_grammar::{Cursor, NAMES, Sort, Unread, list_of};
+use sql_tree::{ColRef, Core, Cursor, ExprTree, FromTree, NAMES, Name, QueryTree, SelectItem, Sort, Unread, list_of};
 use sql_lexer::Token;
-use sql_tree::{ColRef, Core, ExprTree, FromTree, Name, QueryTree, SelectItem};
 use std::alloc::Global;
 
 fn unboxed(part: Option<Boxed<ExprTree>>) -> Option<ExprTree>
@@ -83,7 +82,7 @@ impl<
     F: Fn(&mut Cursor<'_>) -> Result<Boxed<ExprTree>, Unread>,
     G: Fn(&mut Cursor<'_>) -> Result<Boxed<QueryTree>, Unread>,
 > Queries<F, G> {
-    #[tactic(auto, using(sql_grammar::proofs::Queries::item_value_is))]
+    #[tactic(auto, using(sql_tree::proofs::Queries::item_value_is))]
     fn item_value(&self, cursor: &mut Cursor<'_>) -> Result<SelectItem, Unread>
         requires sound { NestReads self.now.nest F.pre G.pre F.post G.post }
         requires below { length cursor.old < self.now.nest.most }
@@ -94,7 +93,7 @@ impl<
         named(cursor, expr)
     }
 
-    #[tactic(auto, using(sql_grammar::proofs::Queries::item_is))]
+    #[tactic(auto, using(sql_tree::proofs::Queries::item_is))]
     fn item(&self, cursor: &mut Cursor<'_>) -> Result<SelectItem, Unread>
         requires sound { NestReads self.now.nest F.pre G.pre F.post G.post }
         requires below { length cursor.old < self.now.nest.most }
@@ -138,7 +137,7 @@ impl<
         Ok(Some(self.nest.expression(cursor)?))
     }
 
-    #[tactic(auto, using(sql_grammar::proofs::Queries::condition_is))]
+    #[tactic(auto, using(sql_tree::proofs::Queries::condition_is))]
     pub fn condition(&self, cursor: &mut Cursor<'_>) -> Result<Option<Boxed<ExprTree>>, Unread>
         requires sound { NestReads self.now.nest F.pre G.pre F.post G.post }
         requires below { length cursor.old ≤ self.now.nest.most }
@@ -148,7 +147,7 @@ impl<
         self.clause(cursor, Sort::Where)
     }
 
-    #[tactic(auto, using(sql_grammar::proofs::Queries::having_is))]
+    #[tactic(auto, using(sql_tree::proofs::Queries::having_is))]
     fn having(&self, cursor: &mut Cursor<'_>) -> Result<Option<Boxed<ExprTree>>, Unread>
         requires sound { NestReads self.now.nest F.pre G.pre F.post G.post }
         requires below { length cursor.old ≤ self.now.nest.most }

@@ -1,17 +1,16 @@
 //! Queries and their set operations (ISO/IEC 9075-2, 'query expression').
 
 ghost use Rattle.std.specs.Prelude.{◌≡◌, ◌<◌, ◌≤◌, Ok, length, IfOk};
-ghost use Rattle.sql_grammar.specs.Building as b;
-ghost use Rattle.sql_grammar.specs.Cursors as spec;
-ghost use Rattle.sql_grammar.specs.Nests.{NestReads};
-ghost use Rattle.sql_grammar.specs.built.Pieces as piece;
-ghost use Rattle.sql_grammar.specs.Symbols as n;
+ghost use Rattle.sql_tree.specs.grammar.Building as b;
+ghost use Rattle.sql_tree.specs.grammar.Cursors as spec;
+ghost use Rattle.sql_tree.specs.grammar.Nests.{NestReads};
+ghost use Rattle.sql_tree.specs.grammar.built.Pieces as piece;
+ghost use Rattle.sql_tree.specs.grammar.Symbols as n;
 
 use crate::grammar::Queries;
 use perm_values::{Boxed, List, NoMemory, both};
-use sql_grammar::{Cursor, Sort, Unread, all_items, same_sort, sort_of};
+use sql_tree::{Cursor, ExprTree, OrderTree, QueryTree, SetStep, SetTree, SetWord, Sort, Unread, all_items, same_sort, sort_of};
 use sql_lexer::Token;
-use sql_tree::{ExprTree, OrderTree, QueryTree, SetStep, SetTree, SetWord};
 use std::alloc::Global;
 
 fn set_word(token: &Token<'_>) -> SetWord
@@ -25,7 +24,7 @@ fn set_word(token: &Token<'_>) -> SetWord
 }
 
 /// The chain of the steps behind the first operand; without steps the operand itself.
-#[tactic(auto, using(sql_grammar::proofs::Queries::set_chain_of))]
+#[tactic(auto, using(sql_tree::proofs::Queries::set_chain_of))]
 fn set_chain(
     alloc: Global,
     first: Boxed<SetTree>,
@@ -79,7 +78,7 @@ impl<
         cursor.value_before(tree, Sort::Closing)
     }
 
-    #[tactic(auto, using(sql_grammar::proofs::Queries::operand_is))]
+    #[tactic(auto, using(sql_tree::proofs::Queries::operand_is))]
     fn operand(&self, cursor: &mut Cursor<'_>) -> Result<Boxed<SetTree>, Unread>
         requires sound { NestReads self.now.nest F.pre G.pre F.post G.post }
         requires below { length cursor.old ≤ self.now.nest.most }
@@ -94,7 +93,7 @@ impl<
         }
     }
 
-    #[tactic(auto, using(sql_grammar::proofs::Queries::intersect_is))]
+    #[tactic(auto, using(sql_tree::proofs::Queries::intersect_is))]
     fn intersect_step(&self, cursor: &mut Cursor<'_>) -> Result<SetStep, Unread>
         requires sound { NestReads self.now.nest F.pre G.pre F.post G.post }
         requires below { length cursor.old ≤ self.now.nest.most }
@@ -126,7 +125,7 @@ impl<
         )
     }
 
-    #[tactic(auto, using(sql_grammar::proofs::Queries::term_is))]
+    #[tactic(auto, using(sql_tree::proofs::Queries::term_is))]
     fn term(&self, cursor: &mut Cursor<'_>) -> Result<Boxed<SetTree>, Unread>
         requires sound { NestReads self.now.nest F.pre G.pre F.post G.post }
         requires below { length cursor.old ≤ self.now.nest.most }
@@ -138,7 +137,7 @@ impl<
         Ok(set_chain(cursor.alloc(), first, steps)?)
     }
 
-    #[tactic(auto, using(sql_grammar::proofs::Queries::union_is))]
+    #[tactic(auto, using(sql_tree::proofs::Queries::union_is))]
     fn union_step(&self, cursor: &mut Cursor<'_>) -> Result<SetStep, Unread>
         requires sound { NestReads self.now.nest F.pre G.pre F.post G.post }
         requires below { length cursor.old ≤ self.now.nest.most }
@@ -206,7 +205,7 @@ impl<
     }
 
     /// A query, whose inner queries are read by another function.
-    #[tactic(auto, using(sql_grammar::proofs::Queries::query_is))]
+    #[tactic(auto, using(sql_tree::proofs::Queries::query_is))]
     pub fn query_body(&self, cursor: &mut Cursor<'_>) -> Result<Boxed<QueryTree>, Unread>
         requires sound { NestReads self.now.nest F.pre G.pre F.post G.post }
         requires below { length cursor.old ≤ self.now.nest.most }

@@ -1,7 +1,7 @@
 -- What is split into the tokens of a form is a text of a tree of the form.
 use Rattle.std.proofs.Common.{ℕ, List, refl}
 use Rattle.sql_lexer.specs.Lexes.{Lexes}
-use Rattle.sql_grammar.specs.Symbols as n
+use Rattle.sql_tree.specs.grammar.Symbols as n
 use Rattle.sql_parser.specs.Texts.{IsTextOf}
 use Rattle.sql_tree.specs.declared.query.QueryTree.{QueryTree}
 use Rattle.sql_tree.specs.declared.statement.Script.{Script}

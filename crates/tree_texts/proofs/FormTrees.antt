@@ -1,6 +1,6 @@
 -- What the plan of a form gives is a tree of the form, wherever its tokens stand.
 use Rattle.std.proofs.Common.{◌≡◌, ℕ, ◌+◌, Bool, true, false, List, [], ◌∷◌, map, Option, Some, None, refl, ap, ap₂, ◌∙◌}
-use Rattle.sql_grammar.specs.Building.{lateral}
+use Rattle.sql_tree.specs.grammar.Building.{lateral}
 use Rattle.tree_texts.specs.plans.Levels.{a_name, expression}
 use Rattle.tree_texts.specs.plans.Plans.{no_more, one_more}
 use Rattle.sql_tree.specs.declared.expression.ExprBody.TheVariants as e

@@ -9,8 +9,8 @@ use Rattle.null_logic.specs.declared.truth.Truth.{Truth}
 use Rattle.null_logic.specs.declared.truth.Truth.TheVariants as truths
 use Rattle.perm_values.specs.declared.kind.Kind.{Kind}
 use Rattle.perm_values.specs.declared.kind.Kind.TheVariants as kinds
-use Rattle.sql_grammar.specs.Rules.{symbol}
-use Rattle.sql_grammar.specs.Symbols as n
+use Rattle.sql_tree.specs.grammar.Rules.{symbol}
+use Rattle.sql_tree.specs.grammar.Symbols as n
 use Rattle.tree_texts.specs.plans.Levels.{number_token, expression}
 use Rattle.tree_texts.specs.plans.Plans.{Plan}
 use Rattle.tree_texts.specs.Fits.{FitsNumber, FitsColumn, FitsKey, FitsLimit, FitsEnd, FitsExpr, FitsCompound, FitsExprs, FitsTerms, FitsFactors, FitsArms, FitsItems, FitsSource, FitsJoins, FitsFrom, FitsCondition, FitsCore, FitsUnions, FitsIntersects, FitsQuery}

@@ -1,8 +1,8 @@
 -- What stands alone at a level is its part, and in parentheses it is a node of its own.
 use Rattle.std.proofs.Common.{◌≡◌, ℕ, ◌+◌, refl}
-use Rattle.sql_grammar.specs.Building.{node}
-use Rattle.sql_grammar.specs.Rules.{symbol}
-use Rattle.sql_grammar.specs.Symbols as n
+use Rattle.sql_tree.specs.grammar.Building.{node}
+use Rattle.sql_tree.specs.grammar.Rules.{symbol}
+use Rattle.sql_tree.specs.grammar.Symbols as n
 use Rattle.sql_tree.specs.declared.expression.ExprBody.TheVariants as e
 use Rattle.tree_texts.specs.plans.Levels.{expression, parens}
 use Rattle.tree_texts.specs.plans.Plans.{Plan, value}

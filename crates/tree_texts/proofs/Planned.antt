@@ -11,11 +11,11 @@ use Rattle.sql_lexer.specs.declared.token.TokenKind.TheVariants.{Word, Quoted, N
 use Rattle.sql_lexer.specs.Lexes.{LexesTo, Lexes}
 use Rattle.sql_lexer.specs.Printing.{spelling, plain_spelled, at_place, IsSpellable, spaced, placed as standing}
 use Rattle.sql_lexer.proofs.Printed.{read_again}
-use Rattle.sql_grammar.specs.Grammar.{sql, SqlRule}
-use Rattle.sql_grammar.specs.Rules as rules
-use Rattle.sql_grammar.specs.Rules.{◌then◌, ◌or◌, front, optional, many, placed, symbol, Spelled, StartsAt}
-use Rattle.sql_grammar.specs.Sorts.{sort_of, sort_by}
-use Rattle.sql_grammar.specs.declared.sort.Sort.{Sort}
+use Rattle.sql_tree.specs.grammar.Grammar.{sql, SqlRule}
+use Rattle.sql_tree.specs.grammar.Rules as rules
+use Rattle.sql_tree.specs.grammar.Rules.{◌then◌, ◌or◌, front, optional, many, placed, symbol, Spelled, StartsAt}
+use Rattle.sql_tree.specs.grammar.Sorts.{sort_of, sort_by}
+use Rattle.sql_tree.specs.declared.grammar.sort.Sort.{Sort}
 use Rattle.tree_texts.specs.plans.Blanks.{Blank, left_out, none, both_blank, blank_symbol, blank_value}
 use Rattle.tree_texts.specs.plans.Plans.{OneOf, here, there, Plan, a_word, a_choice, a_token, both, before, behind, first, second, front_first, front_second, absent, present, no_more, one_more, one_last, at_start, as_symbol, tokens_of, printed, text_of, value, Told}
 use Rattle.tree_texts.specs.plans.Written.{token_for}

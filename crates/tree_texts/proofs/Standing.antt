@@ -11,12 +11,12 @@ use Rattle.sql_lexer.specs.declared.token.TokenKind.{TokenKind}
 use Rattle.sql_lexer.specs.declared.token.TokenKind.TheVariants.{Word, Quoted, Number, Text, Symbol as Sign}
 use Rattle.sql_lexer.specs.Printing.{plain_spelled}
 use Rattle.sql_lexer.proofs.Fronts.{and_parts}
-use Rattle.sql_grammar.specs.Grammar.{sql, SqlRule}
-use Rattle.sql_grammar.specs.Rules as rules
-use Rattle.sql_grammar.specs.Rules.{◌then◌, many, Spelled, StartsAt}
-use Rattle.sql_grammar.specs.Sorts.{sort_of, sort_by}
-use Rattle.sql_grammar.specs.declared.sort.Sort.{Sort}
-use Rattle.sql_grammar.specs.declared.sort.Sort.TheVariants as s
+use Rattle.sql_tree.specs.grammar.Grammar.{sql, SqlRule}
+use Rattle.sql_tree.specs.grammar.Rules as rules
+use Rattle.sql_tree.specs.grammar.Rules.{◌then◌, many, Spelled, StartsAt}
+use Rattle.sql_tree.specs.grammar.Sorts.{sort_of, sort_by}
+use Rattle.sql_tree.specs.declared.grammar.sort.Sort.{Sort}
+use Rattle.sql_tree.specs.declared.grammar.sort.Sort.TheVariants as s
 use Rattle.tree_texts.specs.plans.Blanks.{Blank, left_out, none, both_blank, blank_symbol, blank_value}
 use Rattle.tree_texts.specs.plans.Plans.{OneOf, here, there, Plan, a_word, a_choice, a_token, both, before, behind, first, second, front_first, front_second, absent, present, no_more, one_more, one_last, at_start, as_symbol, tokens_of}
 use Rattle.tree_texts.specs.plans.Written.{is_written, token_for}

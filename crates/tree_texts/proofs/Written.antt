@@ -2,9 +2,9 @@
 use Rattle.std.proofs.Common.{◌≡◌, true, refl}
 use Rattle.sql_lexer.specs.Bytes.{class_of}
 use Rattle.sql_lexer.specs.Printing.{IsSpellable}
-use Rattle.sql_grammar.specs.Sorts.{sort_of, word_sort, symbol_sort}
-use Rattle.sql_grammar.specs.declared.sort.Sort.{Sort}
-use Rattle.sql_grammar.specs.declared.sort.Sort.TheVariants as s
+use Rattle.sql_tree.specs.grammar.Sorts.{sort_of, word_sort, symbol_sort}
+use Rattle.sql_tree.specs.declared.grammar.sort.Sort.{Sort}
+use Rattle.sql_tree.specs.declared.grammar.sort.Sort.TheVariants as s
 use Rattle.tree_texts.specs.plans.Written.{is_written, token_for}
 
 pub sorted : (sort : Sort) → is_written sort ≡ true → sort_of (token_for sort) ≡ sort

@@ -1,8 +1,8 @@
 -- The plan of each form: which rules of the grammar it is spelled by, with which words and names.
 use Rattle.std.specs.Prelude.{ℕ, List, Option, refl}
-use Rattle.sql_grammar.specs.Rules.{word, ◌then◌, many, symbol}
-use Rattle.sql_grammar.specs.Symbols as n
-use Rattle.sql_grammar.specs.declared.sort.Sort.TheVariants as s
+use Rattle.sql_tree.specs.grammar.Rules.{word, ◌then◌, many, symbol}
+use Rattle.sql_tree.specs.grammar.Symbols as n
+use Rattle.sql_tree.specs.declared.grammar.sort.Sort.TheVariants as s
 use Rattle.tree_texts.specs.plans.Blanks.{blank_symbol, left_out, none}
 use Rattle.tree_texts.specs.plans.Levels.{a_name, a_number, literal, reference, to_sign, to_product, to_sum, to_compared, to_test, to_both, to_expr, operand, expression, parens}
 use Rattle.tree_texts.specs.plans.Plans.{Plan, here, there, a_word, a_choice, both, before, behind, first, second, front_second, absent, present, no_more, one_more, one_last, at_start, as_symbol}

@@ -7,10 +7,10 @@ use Rattle.null_logic.specs.declared.truth.Truth.TheVariants as truths
 use Rattle.perm_values.specs.declared.kind.Kind.{Kind}
 use Rattle.perm_values.specs.declared.kind.Kind.TheVariants as kinds
 use Rattle.sql_lexer.specs.declared.token.TokenKind.TheVariants.{Quoted, Text}
-use Rattle.sql_grammar.specs.Grammar.{SqlRule, lateral}
-use Rattle.sql_grammar.specs.Rules.{word, token, ◌then◌, ◌or◌, optional, many, symbol}
-use Rattle.sql_grammar.specs.Symbols as n
-use Rattle.sql_grammar.specs.declared.sort.Sort.TheVariants as s
+use Rattle.sql_tree.specs.grammar.Grammar.{SqlRule, lateral}
+use Rattle.sql_tree.specs.grammar.Rules.{word, token, ◌then◌, ◌or◌, optional, many, symbol}
+use Rattle.sql_tree.specs.grammar.Symbols as n
+use Rattle.sql_tree.specs.declared.grammar.sort.Sort.TheVariants as s
 use Rattle.tree_texts.specs.plans.Blanks.{blank_symbol, left_out, none}
 use Rattle.tree_texts.specs.plans.Levels.{a_name, number_token, to_sign, to_product, to_sum, to_ranged, to_compared, to_test, to_negated, to_both, to_expr, operand, tested, expression}
 use Rattle.tree_texts.specs.plans.Plans.{Plan, here, there, a_word, a_choice, a_token, both, before, behind, first, second, front_first, front_second, absent, present, no_more, one_more, at_start, as_symbol}

@@ -4,7 +4,7 @@ use Rattle.std.proofs.Common.{inl, inr}
 use Rattle.std.specs.Str.{IsUtf8}
 use Rattle.sql_lexer.specs.Printing.{plain_spelled, IsSpellable}
 use Rattle.sql_lexer.specs.declared.token.Token.{Token}
-use Rattle.sql_grammar.specs.Grammar.{SqlRule, Given, build}
+use Rattle.sql_tree.specs.grammar.Grammar.{SqlRule, Given, build}
 use Rattle.tree_texts.specs.plans.Blanks.{blank_value}
 use Rattle.tree_texts.specs.plans.Plans.{Plan, a_word, a_choice, a_token, both, before, behind, first, second, front_first, front_second, absent, present, no_more, one_more, one_last, at_start, as_symbol, tokens_of}
 use Rattle.tree_texts.specs.plans.Written.{token_for}

@@ -6,8 +6,8 @@ use Rattle.sql_lexer.specs.Printing.{bytes_of}
 use Rattle.sql_lexer.specs.declared.token.Token.{Token}
 use Rattle.sql_lexer.specs.declared.token.TokenKind.{TokenKind}
 use Rattle.sql_lexer.specs.declared.token.TokenKind.TheVariants.{Word, Quoted, Number, Text, Symbol}
-use Rattle.sql_grammar.specs.Rules.{symbol}
-use Rattle.sql_grammar.specs.Symbols as n
+use Rattle.sql_tree.specs.grammar.Rules.{symbol}
+use Rattle.sql_tree.specs.grammar.Symbols as n
 use Rattle.tree_texts.specs.plans.Blanks.{left_out}
 use Rattle.tree_texts.specs.plans.Plans.{Plan, a_word, both, before, second, present, one_last, at_start, as_symbol, tokens_of}
 use Rattle.tree_texts.specs.FormPlans as plan

@@ -4,7 +4,7 @@ use Rattle.null_logic.specs.declared.arith.Arith.TheVariants as arith
 use Rattle.null_logic.specs.declared.compare.Compare.TheVariants as compare
 use Rattle.null_logic.specs.declared.truth.Truth.TheVariants as truth
 use Rattle.perm_values.specs.declared.kind.Kind.TheVariants as kind
-use Rattle.sql_grammar.specs.Symbols as n
+use Rattle.sql_tree.specs.grammar.Symbols as n
 use Rattle.sql_parser.specs.Texts.{tree_in}
 use Rattle.sql_tree.specs.declared.expression.AggWord.TheVariants as word
 use Rattle.sql_tree.specs.declared.expression.ExprBody.TheVariants as e

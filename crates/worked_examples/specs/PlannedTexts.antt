@@ -1,10 +1,10 @@
 -- Worked examples of plans: a SELECT with a join, one with a lateral join, a UNION of queries in parentheses, and an EXISTS, each with its text.
 use Rattle.std.specs.Prelude.{◌≡◌, ℕ, List, codes, refl}
 use Rattle.std.specs.Fmt.{digits}
-use Rattle.sql_grammar.specs.Grammar.{derived as derived_rule}
-use Rattle.sql_grammar.specs.Rules.{◌then◌, symbol}
-use Rattle.sql_grammar.specs.Symbols as n
-use Rattle.sql_grammar.specs.declared.sort.Sort.TheVariants as s
+use Rattle.sql_tree.specs.grammar.Grammar.{derived as derived_rule}
+use Rattle.sql_tree.specs.grammar.Rules.{◌then◌, symbol}
+use Rattle.sql_tree.specs.grammar.Symbols as n
+use Rattle.sql_tree.specs.declared.grammar.sort.Sort.TheVariants as s
 use Rattle.tree_texts.specs.plans.Blanks.{Blank, left_out, none, both_blank, blank_symbol}
 use Rattle.tree_texts.specs.plans.Levels.{a_name, a_number, a_column, literal, reference, operand, tested, expression, query, inner, core, enclosed, in_parentheses}
 use Rattle.tree_texts.specs.plans.Plans.{Plan, here, a_word, a_choice, both, before, behind, first, second, front_first, front_second, present, one_last, at_start, as_symbol, text_of}

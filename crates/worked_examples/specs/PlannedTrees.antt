@@ -2,7 +2,7 @@
 use Rattle.std.specs.Prelude.{◌≡◌, ℕ, pos, false, List, [], ◌∷◌, Option, Some, None, codes, refl}
 use Rattle.std.specs.Fmt.{digits}
 use Rattle.null_logic.specs.declared.compare.Compare.TheVariants as compare
-use Rattle.sql_grammar.specs.Sorts.{word_sort, symbol_sort, same_sort}
+use Rattle.sql_tree.specs.grammar.Sorts.{word_sort, symbol_sort, same_sort}
 use Rattle.sql_tree.specs.declared.expression.ExprBody.{ExprBody}
 use Rattle.sql_tree.specs.declared.expression.ExprBody.TheVariants as e
 use Rattle.sql_tree.specs.declared.expression.ExprTree.{ExprTree}

@@ -4,15 +4,15 @@ use Rattle.std.specs.Prelude.{◌≡◌, ℕ, not, nat_eq, List, [], ◌∷◌, 
 use Rattle.std.specs.List.{flat_map, range_with_len}
 use Rattle.std.proofs.Common.{inl, inr}
 use Rattle.sql_lexer.specs.declared.token.Token.{Token}
-use Rattle.sql_grammar.specs.Descent.{Tables, read, reading_to, repeated}
-use Rattle.sql_grammar.specs.Grammar.{SqlRule, body}
-use Rattle.sql_grammar.specs.Rules.{word, token, ◌then◌, ◌or◌, front, optional, many, placed, symbol, Value, Grammar}
-use Rattle.sql_grammar.specs.Sorts.{reserved, free, symbols, sort_of, same_sort, word_sort, symbol_sort}
-use Rattle.sql_grammar.specs.Symbols as n
-use Rattle.sql_grammar.specs.Symbols.{Symbol}
-use Rattle.sql_grammar.specs.Tables.{sql_tables}
-use Rattle.sql_grammar.specs.declared.sort.Sort.{Sort}
-use Rattle.sql_grammar.specs.declared.sort.Sort.TheVariants as s
+use Rattle.sql_tree.specs.grammar.Descent.{Tables, read, reading_to, repeated}
+use Rattle.sql_tree.specs.grammar.Grammar.{SqlRule, body}
+use Rattle.sql_tree.specs.grammar.Rules.{word, token, ◌then◌, ◌or◌, front, optional, many, placed, symbol, Value, Grammar}
+use Rattle.sql_tree.specs.grammar.Sorts.{reserved, free, symbols, sort_of, same_sort, word_sort, symbol_sort}
+use Rattle.sql_tree.specs.grammar.Symbols as n
+use Rattle.sql_tree.specs.grammar.Symbols.{Symbol}
+use Rattle.sql_tree.specs.grammar.Tables.{sql_tables}
+use Rattle.sql_tree.specs.declared.grammar.sort.Sort.{Sort}
+use Rattle.sql_tree.specs.declared.grammar.sort.Sort.TheVariants as s
 use Rattle.sql_parser.specs.Texts.{tokens_in, whole}
 use Rattle.worked_examples.specs.LongTexts.{clauses, statements, parts}
 

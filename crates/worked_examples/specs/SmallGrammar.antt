@@ -1,8 +1,8 @@
 -- A small grammar as a worked example: sums of digits, with parentheses.
 use Rattle.std.specs.Prelude.{◌≡◌, ℕ, ◌+◌, ◌-◌, false, List, [], ◌∷◌, map, sum, codes, nat_eq, ◌⊎◌}
 use Rattle.std.proofs.Common.{inl, inr, refl}
-use Rattle.sql_grammar.specs.Rules.{Rule, word, token, ◌then◌, ◌or◌, many, symbol, Value, Grammar}
-use Rattle.sql_grammar.specs.Descent.{Taken, Stopped, Tables, repeated, reading_to, read}
+use Rattle.sql_tree.specs.grammar.Rules.{Rule, word, token, ◌then◌, ◌or◌, many, symbol, Value, Grammar}
+use Rattle.sql_tree.specs.grammar.Descent.{Taken, Stopped, Tables, repeated, reading_to, read}
 
 -- sum = part { + part } ; part = digit | ( sum )
 pub data Toy : Type 0 where

@@ -1,6 +1,6 @@
 -- The text of a plan, piece by piece: a blank stands behind each token.
 use Rattle.std.specs.Prelude.{ℕ, List, [], ◌∷◌, ◌++◌}
-use Rattle.sql_grammar.specs.Grammar.{SqlRule}
+use Rattle.sql_tree.specs.grammar.Grammar.{SqlRule}
 use Rattle.tree_texts.specs.plans.Plans.{Plan, a_word, a_choice, a_token, both, before, behind, first, second, front_first, front_second, absent, present, no_more, one_more, one_last, at_start, as_symbol}
 use Rattle.tree_texts.specs.plans.Written.{token_for}
 use Rattle.tree_texts.specs.FormPlans as plan

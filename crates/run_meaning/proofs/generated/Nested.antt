@@ -5,9 +5,9 @@ use Rattle.sql_lexer.specs.declared.token.Token.{Token}
 use Rattle.sql_lexer.specs.declared.token.TokenKind.{TokenKind}
 use Rattle.sql_lexer.specs.declared.token.TokenKind.TheVariants.{Word, Quoted, Number, Text, Symbol}
 use Rattle.sql_lexer.specs.Printing.{at_place, placed, plain_spelled, spelling}
-use Rattle.sql_grammar.specs.Sorts.{same_sort, sort_by, sort_of, symbol_sort, word_sort}
-use Rattle.sql_grammar.specs.declared.sort.Sort.{Sort}
-use Rattle.sql_grammar.specs.declared.sort.Sort.TheVariants as s
+use Rattle.sql_tree.specs.grammar.Sorts.{same_sort, sort_by, sort_of, symbol_sort, word_sort}
+use Rattle.sql_tree.specs.declared.grammar.sort.Sort.{Sort}
+use Rattle.sql_tree.specs.declared.grammar.sort.Sort.TheVariants as s
 use Rattle.sql_parser.specs.Nesting.{after, first_beyond, too_deep}
 use Rattle.tree_texts.specs.plans.Plans.{tokens_of}
 use Rattle.run_meaning.proofs.generated.Parts.{more_rows}

@@ -2,11 +2,11 @@
 use Rattle.std.proofs.Common.{◌≡◌, ℕ, zero, suc, List, [], refl, sym, subst}
 use Rattle.std.specs.Prelude.{codes}
 use Rattle.sql_lexer.specs.declared.token.TokenKind.TheVariants.{Word, Text}
-use Rattle.sql_grammar.specs.Grammar.{plain_names, list_of}
-use Rattle.sql_grammar.specs.Rules.{◌then◌, many, symbol, word}
-use Rattle.sql_grammar.specs.Sorts.{names, word_sort}
-use Rattle.sql_grammar.specs.Symbols as n
-use Rattle.sql_grammar.specs.declared.sort.Sort.TheVariants as s
+use Rattle.sql_tree.specs.grammar.Grammar.{plain_names, list_of}
+use Rattle.sql_tree.specs.grammar.Rules.{◌then◌, many, symbol, word}
+use Rattle.sql_tree.specs.grammar.Sorts.{names, word_sort}
+use Rattle.sql_tree.specs.grammar.Symbols as n
+use Rattle.sql_tree.specs.declared.grammar.sort.Sort.TheVariants as s
 use Rattle.tree_texts.specs.plans.Blanks.{Blank, left_out, none, both_blank, blank_symbol}
 use Rattle.tree_texts.specs.plans.Levels.{core, expression, inner, operand, query, reference, tested, to_compared, to_product, to_sign, to_sum}
 use Rattle.tree_texts.specs.plans.Levels as levels

@@ -8,10 +8,10 @@ use Rattle.std.proofs.lemmas.Bool.{ne_eqb}
 use Rattle.std.proofs.lemmas.Fmt.{decimal_is_IsNumeral}
 use Rattle.std.proofs.lemmas.Str.Parse.{digit_from_value}
 use Rattle.sql_lexer.specs.Bytes.{doubled}
-use Rattle.sql_grammar.specs.Rules.{◌then◌, many, optional, symbol, word}
-use Rattle.sql_grammar.specs.Sorts.{word_sort}
-use Rattle.sql_grammar.specs.Symbols as n
-use Rattle.sql_grammar.specs.declared.sort.Sort.TheVariants as s
+use Rattle.sql_tree.specs.grammar.Rules.{◌then◌, many, optional, symbol, word}
+use Rattle.sql_tree.specs.grammar.Sorts.{word_sort}
+use Rattle.sql_tree.specs.grammar.Symbols as n
+use Rattle.sql_tree.specs.declared.grammar.sort.Sort.TheVariants as s
 use Rattle.tree_texts.specs.plans.Plans.{Plan, a_word, as_symbol, both, one_last, one_more, present, text_of}
 use Rattle.run_meaning.specs.generated.Generated.{big_row, big_rows, comma, generated, queries, small_rows, tables}
 use Rattle.run_meaning.proofs.generated.Parts.{IsPlain, column, column_of, count_all, created, equal, from, from_joined, group_by, inserted, integers, is_in, less, more_rows, number, one_item, queried, query_as, row, select, select_where, sum_of, table, text_value, texts, traced, traced_groups, traced_where, two_items}

@@ -12,7 +12,7 @@ use Rattle.sql_lexer.specs.Bytes.{class_of}
 use Rattle.sql_lexer.specs.Printing.{CanSpell}
 use Rattle.sql_lexer.specs.declared.token.TokenKind.{TokenKind}
 use Rattle.sql_lexer.specs.declared.token.TokenKind.TheVariants.{Word, Quoted, Number, Text, Symbol}
-use Rattle.sql_grammar.specs.Grammar.{SqlRule}
+use Rattle.sql_tree.specs.grammar.Grammar.{SqlRule}
 use Rattle.tree_texts.specs.plans.Plans.{Plan, Told, a_word, a_choice, a_token, before, behind, first, second, front_first, front_second, absent, present, no_more, one_more, one_last, at_start, as_symbol}
 use Rattle.tree_texts.specs.plans.Plans as plans
 use Rattle.run_meaning.specs.generated.Generated.{big_row, big_rows, comma, generated, queries, small_rows, tables}

@@ -3,15 +3,15 @@ use Rattle.std.specs.Prelude.{Bool, false, List, [], ◌∷◌, cond}
 use Rattle.std.proofs.Common.{inl, inr}
 use Rattle.null_logic.specs.declared.compare.Compare.{Compare}
 use Rattle.sql_lexer.specs.declared.token.Token.{Token}
-use Rattle.sql_grammar.specs.Building as b
-use Rattle.sql_grammar.specs.Building.{node}
-use Rattle.sql_grammar.specs.Cursors.{reading, sees, one}
-use Rattle.sql_grammar.specs.Descent.{Outcome, mapped}
-use Rattle.sql_grammar.specs.built.Pieces.{by}
-use Rattle.sql_grammar.specs.Rules.{word, token, symbol, ◌then◌}
-use Rattle.sql_grammar.specs.Symbols as n
-use Rattle.sql_grammar.specs.declared.sort.Sort.{Sort}
-use Rattle.sql_grammar.specs.declared.sort.Sort.TheVariants as s
+use Rattle.sql_tree.specs.grammar.Building as b
+use Rattle.sql_tree.specs.grammar.Building.{node}
+use Rattle.sql_tree.specs.grammar.Cursors.{reading, sees, one}
+use Rattle.sql_tree.specs.grammar.Descent.{Outcome, mapped}
+use Rattle.sql_tree.specs.grammar.built.Pieces.{by}
+use Rattle.sql_tree.specs.grammar.Rules.{word, token, symbol, ◌then◌}
+use Rattle.sql_tree.specs.grammar.Symbols as n
+use Rattle.sql_tree.specs.declared.grammar.sort.Sort.{Sort}
+use Rattle.sql_tree.specs.declared.grammar.sort.Sort.TheVariants as s
 use Rattle.sql_levels.specs.declared.tail.Tail.{Tail}
 use Rattle.sql_levels.specs.declared.tail.Tail.TheVariants as tail
 use Rattle.sql_tree.specs.declared.expression.ExprBody.{ExprBody}

@@ -2,8 +2,8 @@
 use Rattle.std.specs.Prelude.{ℕ, List, [], ◌∷◌, Result, Ok, Err}
 use Rattle.sql_lexer.specs.declared.token.Token.{Token}
 use Rattle.sql_parser.specs.Spells.{offset_in}
-use Rattle.sql_grammar.specs.declared.unread.Unread.{Unread}
-use Rattle.sql_grammar.specs.declared.unread.Unread.TheVariants as unread
+use Rattle.sql_tree.specs.declared.grammar.unread.Unread.{Unread}
+use Rattle.sql_tree.specs.declared.grammar.unread.Unread.TheVariants as unread
 use Rattle.sql_parser.specs.declared.syntax_error.SyntaxError.{SyntaxError}
 use Rattle.sql_parser.specs.declared.syntax_error.SyntaxError.TheVariants.{Unexpected, NoMemory}
 use Rattle.sql_tree.specs.declared.statement.Script.{Script}

@@ -1,7 +1,7 @@
 -- Literals that stand alone.
 use Rattle.std.specs.Prelude.{List, [], ◌∷◌}
-use Rattle.sql_grammar.specs.declared.sort.Sort.{Sort}
-use Rattle.sql_grammar.specs.declared.sort.Sort.TheVariants as s
+use Rattle.sql_tree.specs.declared.grammar.sort.Sort.{Sort}
+use Rattle.sql_tree.specs.declared.grammar.sort.Sort.TheVariants as s
 
 -- what ends an expression in a list or in parentheses
 abbrev pub ends : List Sort

@@ -2,15 +2,15 @@
 use Rattle.std.specs.Prelude.{ℕ, cond, List, [], ◌∷◌, Option, Some, None}
 use Rattle.std.specs.Borrow.{Bor}
 use Rattle.sql_lexer.specs.declared.token.Token.{Token}
-use Rattle.sql_grammar.specs.Building.{Word, present}
-use Rattle.sql_grammar.specs.Cursors.{reading, sees}
-use Rattle.sql_grammar.specs.Descent.{Outcome, mapped}
-use Rattle.sql_grammar.specs.Lists.{listed}
-use Rattle.sql_grammar.specs.built.Pieces.{by}
-use Rattle.sql_grammar.specs.Rules.{word, token, symbol, ◌then◌, optional}
-use Rattle.sql_grammar.specs.Symbols as n
-use Rattle.sql_grammar.specs.Tables.{begins}
-use Rattle.sql_grammar.specs.declared.sort.Sort.TheVariants as s
+use Rattle.sql_tree.specs.grammar.Building.{Word, present}
+use Rattle.sql_tree.specs.grammar.Cursors.{reading, sees}
+use Rattle.sql_tree.specs.grammar.Descent.{Outcome, mapped}
+use Rattle.sql_tree.specs.grammar.Lists.{listed}
+use Rattle.sql_tree.specs.grammar.built.Pieces.{by}
+use Rattle.sql_tree.specs.grammar.Rules.{word, token, symbol, ◌then◌, optional}
+use Rattle.sql_tree.specs.grammar.Symbols as n
+use Rattle.sql_tree.specs.grammar.Tables.{begins}
+use Rattle.sql_tree.specs.declared.grammar.sort.Sort.TheVariants as s
 use Rattle.sql_tree.specs.declared.statement.Statement.{Statement}
 use Rattle.sql_tree.specs.declared.statement.StatementBody.{StatementBody}
 use Rattle.sql_tree.specs.declared.statement.StatementBody.TheVariants.{Select}

@@ -1,18 +1,18 @@
 -- What stands in a primary.
 use Rattle.std.specs.Prelude.{Bool, true, false, Some, None, List, [], ◌∷◌, cond}
 use Rattle.sql_lexer.specs.declared.token.Token.{Token}
-use Rattle.sql_grammar.specs.Building as b
-use Rattle.sql_grammar.specs.Building.{Word}
-use Rattle.sql_grammar.specs.Cursors.{reading, sees, one}
-use Rattle.sql_grammar.specs.Descent.{Outcome, and_then, mapped}
-use Rattle.sql_grammar.specs.Lists.{all_of}
-use Rattle.sql_grammar.specs.built.Pieces.{between, by, passes}
-use Rattle.sql_grammar.specs.Rules.{word, symbol, ◌then◌}
-use Rattle.sql_grammar.specs.built.Sequences.{value_before}
-use Rattle.sql_grammar.specs.Symbols as n
-use Rattle.sql_grammar.specs.Tables.{begins}
-use Rattle.sql_grammar.specs.declared.sort.Sort.{Sort}
-use Rattle.sql_grammar.specs.declared.sort.Sort.TheVariants as s
+use Rattle.sql_tree.specs.grammar.Building as b
+use Rattle.sql_tree.specs.grammar.Building.{Word}
+use Rattle.sql_tree.specs.grammar.Cursors.{reading, sees, one}
+use Rattle.sql_tree.specs.grammar.Descent.{Outcome, and_then, mapped}
+use Rattle.sql_tree.specs.grammar.Lists.{all_of}
+use Rattle.sql_tree.specs.grammar.built.Pieces.{between, by, passes}
+use Rattle.sql_tree.specs.grammar.Rules.{word, symbol, ◌then◌}
+use Rattle.sql_tree.specs.grammar.built.Sequences.{value_before}
+use Rattle.sql_tree.specs.grammar.Symbols as n
+use Rattle.sql_tree.specs.grammar.Tables.{begins}
+use Rattle.sql_tree.specs.declared.grammar.sort.Sort.{Sort}
+use Rattle.sql_tree.specs.declared.grammar.sort.Sort.TheVariants as s
 use Rattle.sql_tree.specs.declared.expression.ArmTree.{ArmTree}
 use Rattle.sql_tree.specs.declared.expression.AggWord.{AggWord}
 use Rattle.sql_tree.specs.declared.expression.AggWord.TheVariants as agg

@@ -11,12 +11,12 @@ use Rattle.sql_lexer.specs.Printing.{plain_spelled}
 use Rattle.sql_lexer.specs.declared.token.Token.{Token}
 use Rattle.sql_lexer.specs.declared.token.TokenKind.{TokenKind}
 use Rattle.sql_lexer.specs.declared.token.TokenKind.TheVariants.{Word, Quoted, Number, Text, Symbol as Sign}
-use Rattle.sql_grammar.specs.Grammar.{SqlRule}
-use Rattle.sql_grammar.specs.Rules.{symbol}
-use Rattle.sql_grammar.specs.Sorts.{same_sort, sort_by, sort_of}
-use Rattle.sql_grammar.specs.Symbols as n
-use Rattle.sql_grammar.specs.declared.sort.Sort.{Sort}
-use Rattle.sql_grammar.specs.declared.sort.Sort.TheVariants as s
+use Rattle.sql_tree.specs.grammar.Grammar.{SqlRule}
+use Rattle.sql_tree.specs.grammar.Rules.{symbol}
+use Rattle.sql_tree.specs.grammar.Sorts.{same_sort, sort_by, sort_of}
+use Rattle.sql_tree.specs.grammar.Symbols as n
+use Rattle.sql_tree.specs.declared.grammar.sort.Sort.{Sort}
+use Rattle.sql_tree.specs.declared.grammar.sort.Sort.TheVariants as s
 use Rattle.tree_texts.specs.plans.Levels.{expression}
 use Rattle.tree_texts.specs.plans.Plans.{Plan, a_word, a_choice, a_token, both, before, behind, first, second, front_first, front_second, absent, present, no_more, one_more, one_last, at_start, as_symbol, tokens_of}
 use Rattle.tree_texts.proofs.Written.{sorted}

@@ -1,7 +1,7 @@
 -- The text of a form.
 use Rattle.std.specs.Prelude.{◌≡◌, ℕ, true, List}
 use Rattle.std.specs.List.{list_all}
-use Rattle.sql_grammar.specs.Symbols as n
+use Rattle.sql_tree.specs.grammar.Symbols as n
 use Rattle.sql_parser.specs.Texts.{IsTextOf}
 use Rattle.sql_tree.specs.declared.query.QueryTree.{QueryTree}
 use Rattle.tree_texts.specs.Forms.{QueryForm}

@@ -1,12 +1,12 @@
 -- A SELECT as it is read: its items, and the clauses behind them.
 use Rattle.std.specs.Prelude.{ℕ, Bool, cond, List, [], ◌∷◌, Option, Some, None}
 use Rattle.sql_lexer.specs.declared.token.Token.{Token}
-use Rattle.sql_grammar.specs.Cursors.{reading, sees, past}
-use Rattle.sql_grammar.specs.Descent.{Outcome, Taken, and_then, mapped}
-use Rattle.sql_grammar.specs.built.Pieces as piece
-use Rattle.sql_grammar.specs.Symbols as n
-use Rattle.sql_grammar.specs.declared.sort.Sort.{Sort}
-use Rattle.sql_grammar.specs.declared.sort.Sort.TheVariants as s
+use Rattle.sql_tree.specs.grammar.Cursors.{reading, sees, past}
+use Rattle.sql_tree.specs.grammar.Descent.{Outcome, Taken, and_then, mapped}
+use Rattle.sql_tree.specs.grammar.built.Pieces as piece
+use Rattle.sql_tree.specs.grammar.Symbols as n
+use Rattle.sql_tree.specs.declared.grammar.sort.Sort.{Sort}
+use Rattle.sql_tree.specs.declared.grammar.sort.Sort.TheVariants as s
 use Rattle.sql_queries.specs.declared.select.Clauses.{Clauses}
 use Rattle.sql_tree.specs.declared.expression.ExprTree.{ExprTree}
 use Rattle.sql_tree.specs.declared.name.ColRef.{ColRef}

@@ -2,14 +2,14 @@
 use Rattle.std.specs.Prelude.{ℕ, Bool, List, [], ◌∷◌, Option}
 use Rattle.std.proofs.Common.{inl}
 use Rattle.sql_lexer.specs.declared.token.Token.{Token}
-use Rattle.sql_grammar.specs.Building as b
-use Rattle.sql_grammar.specs.Cursors.{reading, past}
-use Rattle.sql_grammar.specs.Descent.{Outcome, and_then, mapped}
-use Rattle.sql_grammar.specs.built.Pieces.{by, passes, sees_pair}
-use Rattle.sql_grammar.specs.Grammar.{lateral}
-use Rattle.sql_grammar.specs.Rules.{word, ◌then◌, symbol}
-use Rattle.sql_grammar.specs.Symbols as n
-use Rattle.sql_grammar.specs.declared.sort.Sort.TheVariants as s
+use Rattle.sql_tree.specs.grammar.Building as b
+use Rattle.sql_tree.specs.grammar.Cursors.{reading, past}
+use Rattle.sql_tree.specs.grammar.Descent.{Outcome, and_then, mapped}
+use Rattle.sql_tree.specs.grammar.built.Pieces.{by, passes, sees_pair}
+use Rattle.sql_tree.specs.grammar.Grammar.{lateral}
+use Rattle.sql_tree.specs.grammar.Rules.{word, ◌then◌, symbol}
+use Rattle.sql_tree.specs.grammar.Symbols as n
+use Rattle.sql_tree.specs.declared.grammar.sort.Sort.TheVariants as s
 use Rattle.sql_tree.specs.declared.name.Name.{Name}
 use Rattle.sql_tree.specs.declared.source.FromItem.{FromItem}
 use Rattle.sql_tree.specs.declared.source.FromSource.{FromSource}

@@ -1,12 +1,12 @@
 -- Meaning the same goes both ways, and on.
 use Rattle.std.proofs.Common.{◌≡◌, ℕ, List, [], ◌∷◌, ap, subst, sym, ◌∙◌}
 use Rattle.sql_lexer.proofs.OneAnswer.{one_list}
-use Rattle.sql_grammar.specs.Grammar.{sql}
-use Rattle.sql_grammar.specs.Rules.{symbol, Spelled}
-use Rattle.sql_grammar.specs.Symbols as n
-use Rattle.sql_grammar.specs.Tables.{sql_tables}
-use Rattle.sql_grammar.proofs.Decided.{goes_on, decided}
-use Rattle.sql_grammar.proofs.Exact.{one_value}
+use Rattle.sql_tree.specs.grammar.Grammar.{sql}
+use Rattle.sql_tree.specs.grammar.Rules.{symbol, Spelled}
+use Rattle.sql_tree.specs.grammar.Symbols as n
+use Rattle.sql_tree.specs.grammar.Tables.{sql_tables}
+use Rattle.sql_tree.proofs.Decided.{goes_on, decided}
+use Rattle.sql_tree.proofs.Exact.{one_value}
 use Rattle.sql_parser.specs.Texts.{IsTextOf}
 use Rattle.sql_tree.specs.declared.query.QueryTree.{QueryTree}
 use Rattle.sql_tree.specs.declared.statement.Script.{Script}

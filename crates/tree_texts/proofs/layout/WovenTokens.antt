@@ -13,7 +13,7 @@ use Rattle.sql_lexer.specs.Printing.{plain_spelled}
 use Rattle.sql_lexer.proofs.Ascii.{one_utf8}
 use Rattle.sql_lexer.proofs.Fronts.{and_parts}
 use Rattle.sql_lexer.proofs.Numbers.{and_true}
-use Rattle.sql_grammar.specs.declared.sort.Sort.TheVariants.{Semicolon}
+use Rattle.sql_tree.specs.declared.grammar.sort.Sort.TheVariants.{Semicolon}
 use Rattle.tree_texts.specs.plans.Written.{token_for}
 use Rattle.tree_texts.specs.Standing.{Span, at_span, standing, CanStand}
 use Rattle.tree_texts.specs.Texts.{shown_by, shown, shown_tokens, places_from}

@@ -2,7 +2,7 @@
 use Rattle.std.specs.Prelude.{◌≡◌, ℕ, List, [], ◌∷◌, ◌++◌, codes}
 use Rattle.sql_lexer.specs.Lexes.{Lexes}
 use Rattle.sql_lexer.specs.declared.token.Token.{Token}
-use Rattle.sql_grammar.specs.declared.sort.Sort.TheVariants.{Semicolon}
+use Rattle.sql_tree.specs.declared.grammar.sort.Sort.TheVariants.{Semicolon}
 use Rattle.tree_texts.specs.plans.Written.{token_for}
 use Rattle.tree_texts.specs.Standing.{Places, standing}
 

@@ -1,8 +1,8 @@
 -- What a rule gives where no token stands: its options are left out, and what may stand any number of times stands nowhere.
 use Rattle.std.specs.Prelude.{[], None}
-use Rattle.sql_grammar.specs.Grammar.{SqlRule, Given, body, build}
-use Rattle.sql_grammar.specs.Rules.{◌then◌, optional, many, symbol}
-use Rattle.sql_grammar.specs.Symbols.{Symbol}
+use Rattle.sql_tree.specs.grammar.Grammar.{SqlRule, Given, body, build}
+use Rattle.sql_tree.specs.grammar.Rules.{◌then◌, optional, many, symbol}
+use Rattle.sql_tree.specs.grammar.Symbols.{Symbol}
 
 pub data Blank : SqlRule → Type 0 where
   left_out : {r : SqlRule} → Blank (optional r)

@@ -2,8 +2,8 @@
 use Rattle.std.specs.Prelude.{ℕ, pos, List, [], refl}
 use Rattle.sql_lexer.specs.declared.token.Token.{Token}
 use Rattle.sql_lexer.specs.declared.token.TokenKind.TheVariants.{Quoted, Number}
-use Rattle.sql_grammar.specs.Rules.{symbol}
-use Rattle.sql_grammar.specs.Symbols as n
+use Rattle.sql_tree.specs.grammar.Rules.{symbol}
+use Rattle.sql_tree.specs.grammar.Symbols as n
 use Rattle.tree_texts.specs.plans.Blanks.{Blank, left_out, none, both_blank, blank_symbol}
 use Rattle.tree_texts.specs.plans.Plans.{Plan, here, there, a_word, a_token, both, before, behind, first, second, at_start, as_symbol}
 use Rattle.tree_texts.specs.plans.Written.{token_of}

@@ -4,11 +4,11 @@ use Rattle.std.specs.Prelude.{◌≡◌, ℕ, ◌+◌, true, List, [], ◌∷◌
 use Rattle.std.proofs.Common.{inl, inr}
 use Rattle.sql_lexer.specs.declared.token.Token.{Token}
 use Rattle.sql_lexer.specs.Printing.{spelling, at_place, IsSpellable}
-use Rattle.sql_grammar.specs.Grammar.{SqlRule, Given, body, build}
-use Rattle.sql_grammar.specs.Rules.{word, token, ◌then◌, ◌or◌, front, optional, many, placed, symbol}
-use Rattle.sql_grammar.specs.Sorts.{sort_of}
-use Rattle.sql_grammar.specs.Symbols.{Symbol}
-use Rattle.sql_grammar.specs.declared.sort.Sort.{Sort}
+use Rattle.sql_tree.specs.grammar.Grammar.{SqlRule, Given, body, build}
+use Rattle.sql_tree.specs.grammar.Rules.{word, token, ◌then◌, ◌or◌, front, optional, many, placed, symbol}
+use Rattle.sql_tree.specs.grammar.Sorts.{sort_of}
+use Rattle.sql_tree.specs.grammar.Symbols.{Symbol}
+use Rattle.sql_tree.specs.declared.grammar.sort.Sort.{Sort}
 use Rattle.tree_texts.specs.plans.Blanks.{Blank, blank_value}
 use Rattle.tree_texts.specs.plans.Written.{is_written, token_for}
 

@@ -1,8 +1,8 @@
-use Rattle.sql_grammar.specs.Grammar.{sql}
-use Rattle.sql_grammar.specs.Symbols.{ScriptOf}
-use Rattle.sql_grammar.specs.Tables.{sql_tables}
-use Rattle.sql_grammar.proofs.Decided.{goes_on, decided}
-use Rattle.sql_grammar.proofs.Exact.{one_value}
+use Rattle.sql_tree.specs.grammar.Grammar.{sql}
+use Rattle.sql_tree.specs.grammar.Symbols.{ScriptOf}
+use Rattle.sql_tree.specs.grammar.Tables.{sql_tables}
+use Rattle.sql_tree.proofs.Decided.{goes_on, decided}
+use Rattle.sql_tree.proofs.Exact.{one_value}
 use Rattle.sql_parser.proofs.laws.a_script_has_one_tree.Goals as goal
 
 pub returns : goal.returns

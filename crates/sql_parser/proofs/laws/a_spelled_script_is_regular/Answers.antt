@@ -1,5 +1,5 @@
 use Rattle.sql_parser.proofs.Regularity.{script-regular}
-use Rattle.sql_grammar.proofs.TokenNumbers.{token-numbers}
+use Rattle.sql_tree.proofs.TokenNumbers.{token-numbers}
 use Rattle.sql_parser.proofs.laws.a_spelled_script_is_regular.Goals as goal
 
 pub returns : goal.returns

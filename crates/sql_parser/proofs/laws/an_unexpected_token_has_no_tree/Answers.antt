@@ -1,10 +1,10 @@
 use Rattle.std.proofs.Common.{List, [], ◌∷◌, ◌++◌, subst, sym, append-nil, append_assoc}
 use Rattle.sql_lexer.specs.declared.token.Token.{Token}
-use Rattle.sql_grammar.specs.FirstWrong.{IsWrongAt}
-use Rattle.sql_grammar.specs.Grammar.{sql}
-use Rattle.sql_grammar.specs.Rules.{symbol}
+use Rattle.sql_tree.specs.grammar.FirstWrong.{IsWrongAt}
+use Rattle.sql_tree.specs.grammar.Grammar.{sql}
+use Rattle.sql_tree.specs.grammar.Rules.{symbol}
 use Rattle.sql_parser.specs.Spells.{Spells}
-use Rattle.sql_grammar.specs.Symbols.{ScriptOf}
+use Rattle.sql_tree.specs.grammar.Symbols.{ScriptOf}
 use Rattle.sql_tree.specs.declared.statement.Script.{Script}
 use Rattle.sql_parser.proofs.laws.an_unexpected_token_has_no_tree.Goals as goal
 

@@ -1,9 +1,9 @@
 use Rattle.std.proofs.Common.{◌≡◌, List, [], ◌∷◌, ◌++◌, subst, sym, ap, ◌∙◌, append-nil, append_assoc}
 use Rattle.sql_lexer.specs.declared.token.Token.{Token}
-use Rattle.sql_grammar.specs.FirstWrong.{IsBegun, IsWrongAt}
-use Rattle.sql_grammar.specs.Grammar.{sql}
-use Rattle.sql_grammar.specs.Rules.{symbol, Spelled}
-use Rattle.sql_grammar.specs.Symbols.{ScriptOf}
+use Rattle.sql_tree.specs.grammar.FirstWrong.{IsBegun, IsWrongAt}
+use Rattle.sql_tree.specs.grammar.Grammar.{sql}
+use Rattle.sql_tree.specs.grammar.Rules.{symbol, Spelled}
+use Rattle.sql_tree.specs.grammar.Symbols.{ScriptOf}
 use Rattle.sql_parser.specs.Spells.{offset_in}
 use Rattle.sql_parser.proofs.laws.an_unexpected_token_has_one_offset.Goals as goal
 

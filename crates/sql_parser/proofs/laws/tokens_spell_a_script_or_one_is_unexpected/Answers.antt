@@ -1,13 +1,13 @@
 use Rattle.std.proofs.Common.{◌≡◌, ◌⊎◌, ℕ, List, [], ◌∷◌, inl, inr, refl}
 use Rattle.sql_lexer.specs.declared.token.Token.{Token}
-use Rattle.sql_grammar.specs.Cursors.{reading}
-use Rattle.sql_grammar.specs.Descent.{Outcome, Taken, Stopped}
-use Rattle.sql_grammar.specs.Grammar.{sql}
-use Rattle.sql_grammar.specs.Symbols.{ScriptOf}
-use Rattle.sql_grammar.specs.Tables.{sql_tables}
-use Rattle.sql_grammar.proofs.Decided.{goes_on, decided}
-use Rattle.sql_grammar.proofs.Exact.{whole-spelled, stopped-wrong, left-wrong}
-use Rattle.sql_grammar.proofs.Samples.{samples}
+use Rattle.sql_tree.specs.grammar.Cursors.{reading}
+use Rattle.sql_tree.specs.grammar.Descent.{Outcome, Taken, Stopped}
+use Rattle.sql_tree.specs.grammar.Grammar.{sql}
+use Rattle.sql_tree.specs.grammar.Symbols.{ScriptOf}
+use Rattle.sql_tree.specs.grammar.Tables.{sql_tables}
+use Rattle.sql_tree.proofs.Decided.{goes_on, decided}
+use Rattle.sql_tree.proofs.Exact.{whole-spelled, stopped-wrong, left-wrong}
+use Rattle.sql_tree.proofs.Samples.{samples}
 use Rattle.sql_parser.specs.Spells.{Spells, IsUnexpected, offset_in}
 use Rattle.sql_tree.specs.declared.statement.Script.{Script}
 use Rattle.sql_parser.proofs.laws.tokens_spell_a_script_or_one_is_unexpected.Goals as goal

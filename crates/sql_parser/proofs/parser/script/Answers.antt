@@ -1,6 +1,6 @@
 use Rattle.std.proofs.Common.{◌≡◌, None, subst, ◌∙◌}
-use Rattle.sql_grammar.specs.Cursors.{Reads, reading}
-use Rattle.sql_grammar.specs.Symbols.{ScriptOf}
+use Rattle.sql_tree.specs.grammar.Cursors.{Reads, reading}
+use Rattle.sql_tree.specs.grammar.Symbols.{ScriptOf}
 use Rattle.sql_parser.specs.Nesting.{too_deep}
 use Rattle.sql_parser.proofs.Whole.{parses}
 use Rattle.sql_parser.proofs.parser.script.Goals as goal

@@ -1,11 +1,11 @@
 use Rattle.std.proofs.Common.{◌≡◌, ◌≤◌, true, [], ◌∷◌, ◌++◌, length, Err, sym, ap, subst, ◌∙◌, arith}
 use Rattle.std.proofs.lemmas.Result.{err_from_is_err_and}
-use Rattle.sql_grammar.specs.Building.{present}
-use Rattle.sql_grammar.specs.Cursors.{Reads, past, sees}
-use Rattle.sql_grammar.specs.Descent.{Taken}
-use Rattle.sql_grammar.specs.Lists.{listed}
-use Rattle.sql_grammar.specs.declared.sort.Sort.TheVariants.{Semicolon}
-use Rattle.sql_grammar.proofs.Listing.{fails-on}
+use Rattle.sql_tree.specs.grammar.Building.{present}
+use Rattle.sql_tree.specs.grammar.Cursors.{Reads, past, sees}
+use Rattle.sql_tree.specs.grammar.Descent.{Taken}
+use Rattle.sql_tree.specs.grammar.Lists.{listed}
+use Rattle.sql_tree.specs.declared.grammar.sort.Sort.TheVariants.{Semicolon}
+use Rattle.sql_tree.proofs.Listing.{fails-on}
 use Rattle.sql_parser.specs.built.Statements.{optional_statement, statements}
 use Rattle.sql_parser.proofs.Keeping.{Keeping, keeping-first, keeping-next, keeping-stopped, keeping-done}
 use Rattle.sql_parser.proofs.statements.statements.Goals as goal

@@ -1,6 +1,6 @@
 use Rattle.std.proofs.Common.{◌≤◌, length}
-use Rattle.sql_grammar.specs.Lists.{listed}
-use Rattle.sql_grammar.specs.declared.sort.Sort.TheVariants.{Semicolon}
+use Rattle.sql_tree.specs.grammar.Lists.{listed}
+use Rattle.sql_tree.specs.declared.grammar.sort.Sort.TheVariants.{Semicolon}
 use Rattle.sql_parser.specs.built.Statements.{optional_statement}
 use Rattle.sql_parser.proofs.Keeping.{Keeping}
 use Rattle.sql_parser.proofs.statements.statements.Given as goal

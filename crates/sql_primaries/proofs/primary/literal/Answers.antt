@@ -1,5 +1,5 @@
 use Rattle.std.proofs.Common.{arith}
-use Rattle.sql_grammar.proofs.Steps.{literal_is}
+use Rattle.sql_tree.proofs.Steps.{literal_is}
 use Rattle.sql_primaries.proofs.primary.literal.Goals as goal
 
 pub returns-in_err-token-clause-given : goal.returns-in_err-token-clause-given

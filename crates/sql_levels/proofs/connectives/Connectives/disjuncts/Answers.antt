@@ -1,7 +1,7 @@
 use Rattle.std.proofs.Common.{rules}
-use Rattle.sql_grammar.specs.Cursors.{reading}
-use Rattle.sql_grammar.specs.Symbols as n
-use Rattle.sql_grammar.proofs.Steps.{reading-keeps}
+use Rattle.sql_tree.specs.grammar.Cursors.{reading}
+use Rattle.sql_tree.specs.grammar.Symbols as n
+use Rattle.sql_tree.proofs.Steps.{reading-keeps}
 use Rattle.sql_levels.proofs.connectives.Connectives.disjuncts.Goals as goal
 
 pub returns-clause-given : goal.returns-clause-given

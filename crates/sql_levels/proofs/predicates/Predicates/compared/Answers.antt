@@ -1,5 +1,5 @@
 use Rattle.std.proofs.Common.{arith}
-use Rattle.sql_grammar.proofs.Steps.{compared_is}
+use Rattle.sql_tree.proofs.Steps.{compared_is}
 use Rattle.sql_levels.proofs.predicates.Predicates.compared.Goals as goal
 
 pub returns-in_err-part-clause-given : goal.returns-in_err-part-clause-given

@@ -1,5 +1,5 @@
 use Rattle.std.proofs.Common.{arith}
-use Rattle.sql_grammar.proofs.Steps.{product_step_is}
+use Rattle.sql_tree.proofs.Steps.{product_step_is}
 use Rattle.sql_levels.proofs.sums.Sums.product_step.Goals as goal
 
 pub returns-in_err-token-clause-given : goal.returns-in_err-token-clause-given

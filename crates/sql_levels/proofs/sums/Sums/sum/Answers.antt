@@ -1,5 +1,5 @@
 use Rattle.std.proofs.Common.{arith}
-use Rattle.sql_grammar.proofs.Steps.{sum_is}
+use Rattle.sql_tree.proofs.Steps.{sum_is}
 use Rattle.sql_levels.proofs.sums.Sums.sum.Goals as goal
 
 pub returns-in_err-first-clause-given : goal.returns-in_err-first-clause-given

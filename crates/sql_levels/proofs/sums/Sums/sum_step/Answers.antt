@@ -1,5 +1,5 @@
 use Rattle.std.proofs.Common.{arith}
-use Rattle.sql_grammar.proofs.Steps.{sum_step_is}
+use Rattle.sql_tree.proofs.Steps.{sum_step_is}
 use Rattle.sql_levels.proofs.sums.Sums.sum_step.Goals as goal
 
 pub returns-in_err-token-clause-given : goal.returns-in_err-token-clause-given

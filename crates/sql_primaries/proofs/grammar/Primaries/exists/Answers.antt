@@ -1,5 +1,5 @@
 use Rattle.std.proofs.Common.{arith}
-use Rattle.sql_grammar.proofs.Steps.{exists_is}
+use Rattle.sql_tree.proofs.Steps.{exists_is}
 use Rattle.sql_primaries.proofs.grammar.Primaries.exists.Goals as goal
 
 pub returns-in_err-past-clause-given : goal.returns-in_err-past-clause-given

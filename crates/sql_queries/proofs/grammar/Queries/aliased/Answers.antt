@@ -1,5 +1,5 @@
 use Rattle.std.proofs.Common.{arith}
-use Rattle.sql_grammar.proofs.Queries.{aliased_is}
+use Rattle.sql_tree.proofs.Queries.{aliased_is}
 use Rattle.sql_queries.proofs.grammar.Queries.aliased.Goals as goal
 
 pub returns-then-sees_any-clause-given : goal.returns-then-sees_any-clause-given

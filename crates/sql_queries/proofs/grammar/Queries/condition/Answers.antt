@@ -1,5 +1,5 @@
 use Rattle.std.proofs.Common.{arith}
-use Rattle.sql_grammar.proofs.Queries.{condition_is}
+use Rattle.sql_tree.proofs.Queries.{condition_is}
 use Rattle.sql_queries.proofs.grammar.Queries.condition.Goals as goal
 
 pub returns-clause-given : goal.returns-clause-given

@@ -1,5 +1,5 @@
 use Rattle.std.proofs.Common.{arith}
-use Rattle.sql_grammar.proofs.Queries.{intersect_is}
+use Rattle.sql_tree.proofs.Queries.{intersect_is}
 use Rattle.sql_queries.proofs.grammar.Queries.intersect_step.Goals as goal
 
 pub returns-in_err-past-clause-given : goal.returns-in_err-past-clause-given

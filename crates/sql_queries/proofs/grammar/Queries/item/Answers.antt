@@ -1,5 +1,5 @@
 use Rattle.std.proofs.Common.{arith}
-use Rattle.sql_grammar.proofs.Queries.{item_is}
+use Rattle.sql_tree.proofs.Queries.{item_is}
 use Rattle.sql_queries.proofs.grammar.Queries.item.Goals as goal
 
 pub returns-in_err-token-clause-given : goal.returns-in_err-token-clause-given

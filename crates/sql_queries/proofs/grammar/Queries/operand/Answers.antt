@@ -1,5 +1,5 @@
 use Rattle.std.proofs.Common.{arith}
-use Rattle.sql_grammar.proofs.Queries.{operand_is}
+use Rattle.sql_tree.proofs.Queries.{operand_is}
 use Rattle.sql_queries.proofs.grammar.Queries.operand.Goals as goal
 
 pub returns-in_err-core-clause-given : goal.returns-in_err-core-clause-given

@@ -1,5 +1,5 @@
 use Rattle.std.proofs.Common.{arith}
-use Rattle.sql_grammar.proofs.Queries.{query_is}
+use Rattle.sql_tree.proofs.Queries.{query_is}
 use Rattle.sql_queries.proofs.grammar.Queries.query_body.Goals as goal
 
 pub returns-in_err-first-clause-given : goal.returns-in_err-first-clause-given

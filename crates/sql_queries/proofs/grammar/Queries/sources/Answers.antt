@@ -1,5 +1,5 @@
 use Rattle.std.proofs.Common.{arith}
-use Rattle.sql_grammar.proofs.Queries.{sources_is}
+use Rattle.sql_tree.proofs.Queries.{sources_is}
 use Rattle.sql_queries.proofs.grammar.Queries.sources.Goals as goal
 
 pub returns-in_err-past-clause-given : goal.returns-in_err-past-clause-given

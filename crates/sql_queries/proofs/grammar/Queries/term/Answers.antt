@@ -1,5 +1,5 @@
 use Rattle.std.proofs.Common.{arith}
-use Rattle.sql_grammar.proofs.Queries.{term_is}
+use Rattle.sql_tree.proofs.Queries.{term_is}
 use Rattle.sql_queries.proofs.grammar.Queries.term.Goals as goal
 
 pub returns-in_err-first-clause-given : goal.returns-in_err-first-clause-given

@@ -1,0 +1,12 @@
+use Rattle.std.proofs.Common.{rules}
+use Rattle.sql_tree.specs.grammar.Cursors.{reading}
+use Rattle.sql_tree.specs.grammar.Symbols as n
+use Rattle.sql_tree.proofs.Steps.{reading-keeps, names_is}
+use Rattle.sql_tree.proofs.grammar.cursor.Cursor.names.Goals as goal
+
+pub list_of-requires : goal.list_of-requires
+list_of-requires c = record { callable = λ old within. tt; fewer = λ old new x met. reading-keeps n.NameOf old.now x new.now (search rules) }
+
+pub returns-clause-given : goal.returns-clause-given
+returns-clause-given c = rw (names_is c.args.self.now)
+    (c.list_of.ensures.given (reading n.NameOf) (record { reads = λ old new r met. search rules; fewer = reading-keeps n.NameOf }))
