@@ -9,10 +9,12 @@
 mod first_pass;
 mod gathered;
 mod gathering;
+mod heights;
 mod noted;
 mod wide;
 
 pub use gathered::Gathered;
 pub use gathering::query_inside;
+pub use heights::query_height;
 pub use noted::all_noted;
 pub use wide::first_wide;

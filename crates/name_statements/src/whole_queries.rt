@@ -10,14 +10,13 @@ ghost use Rattle.name_meaning.specs.Statements.{stored_columns};
 ghost use Rattle.name_meaning.specs.Trees.{query_of};
 ghost use Rattle.perm_catalog.specs.Sound.{IsSound};
 ghost use Rattle.name_seen_from.specs.Queried.{QueryWhole};
-ghost use Rattle.name_heights.specs.High.{QueryHigh};
+ghost use Rattle.name_inside.specs.heights.High.{QueryHigh};
 ghost use Rattle.name_statements.specs.Resolves.{InsideSeen, IsInside, WholeSeen, WithinSeen};
 
 use crate::limits::{is_too_high, size_break, within};
 use crate::queries::{Whole, gathered_in, names_in, places_of};
 use bag_algebra::{Answer, Query};
-use name_heights::query_height;
-use name_inside::{Gathered, first_wide};
+use name_inside::{Gathered, first_wide, query_height};
 use name_made_parts::column_names;
 use name_meaning::{Break, Rule};
 use name_seen_from::QueryShown;

@@ -12,9 +12,9 @@ use Rattle.name_meaning.specs.Queries.{set_chain}
 use Rattle.name_meaning.specs.Trees.{arm_of, from_item_of, from_of, item_of, join_of, part_of, set_step_of, step_of}
 use Rattle.name_meaning.specs.declared.need.Need.{Need}
 use Rattle.name_meaning.specs.declared.scope.Scope.{Scope}
-use Rattle.name_heights.specs.Least.{arm_least, chain_least, expr_least, from_least, highest, item_least, join_least, listed_least, operand_least, sources_least, step_least}
-use Rattle.name_heights.specs.High.{FromHigh, ListHigh, OperandsHigh, QueryHigh}
-use Rattle.name_heights.proofs.heights.+height.Given as goal
+use Rattle.name_inside.specs.heights.Least.{arm_least, chain_least, expr_least, from_least, highest, item_least, join_least, listed_least, operand_least, sources_least, step_least}
+use Rattle.name_inside.specs.heights.High.{FromHigh, ListHigh, OperandsHigh, QueryHigh}
+use Rattle.name_inside.proofs.heights.+height.Given as goal
 
 -- how high those so far are
 abbrev pub invariant-chain_height-loop-step : goal.invariant-chain_height-loop-step

@@ -1,3 +1,7 @@
+//! How high at least a query is made, read off its tree.
+//!
+//! It stands apart from what makes the query: what is higher than a query may be isn't made at all, however long its tree
+//! goes on, so nothing goes through it or drops it by recursion.
 //! One walk over the tree of a query. What stands in the tables and views that are read isn't looked at, and of the nodes of a
 //! core only one is counted, so each answer is no more than the height.
 ghost use Rattle.std.specs.Prelude.{◌≡◌, ◌≤◌, ◌<◌, ℕ, suc, max, Bool, List, [], ◌∷◌, map, flat_map, option_map};
@@ -12,8 +16,8 @@ ghost use Rattle.name_meaning.specs.declared.scope.Scope.{Scope};
 ghost use Rattle.name_made_parts.specs.Cored.{items_meant};
 ghost use Rattle.perm_catalog.specs.Contents.{Contents};
 ghost use Rattle.perm_catalog.specs.Sound.{IsSound};
-ghost use Rattle.name_heights.specs.Least.{above, above_both, arm_least, chain_least, core_least, expr_least, from_least, highest, if_there, item_least, join_least, least_height, listed_least, operand_least, set_least, sources_least, step_least};
-ghost use Rattle.name_heights.specs.High.{FromHigh, ItemHigh, ListHigh, OperandsHigh, OptionalHigh, QueryHigh, SelectHigh, SubsHigh};
+ghost use Rattle.name_inside.specs.heights.Least.{above, above_both, arm_least, chain_least, core_least, expr_least, from_least, highest, if_there, item_least, join_least, least_height, listed_least, operand_least, set_least, sources_least, step_least};
+ghost use Rattle.name_inside.specs.heights.High.{FromHigh, ItemHigh, ListHigh, OperandsHigh, OptionalHigh, QueryHigh, SelectHigh, SubsHigh};
 
 use name_seen_parts::is_lateral;
 use perm_values::Boxed;

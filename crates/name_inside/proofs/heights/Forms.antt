@@ -34,8 +34,8 @@ use Rattle.name_meaning.specs.declared.need.Need.TheVariants.{OfKind as of_kind,
 use Rattle.name_meaning.specs.declared.rule.Rule.TheVariants as rule
 use Rattle.name_meaning.specs.declared.scope.Scope.{Scope}
 use Rattle.name_laws.proofs.Every.{back-none, front-none}
-use Rattle.name_heights.proofs.Operands.{node-high, operand-alone, operand-at, operand-pair, operands-both}
-use Rattle.name_heights.specs.High.{ListHigh, OperandsHigh, OptionalHigh, QueryHigh, SelectHigh, SubsHigh}
+use Rattle.name_inside.proofs.heights.Operands.{node-high, operand-alone, operand-at, operand-pair, operands-both}
+use Rattle.name_inside.specs.heights.High.{ListHigh, OperandsHigh, OptionalHigh, QueryHigh, SelectHigh, SubsHigh}
 
 pub any-subs : (m : Meant) → SubsHigh 0 m
 any-subs m none wanted before = omega arith

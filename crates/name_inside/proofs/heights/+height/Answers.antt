@@ -18,14 +18,14 @@ use Rattle.name_meaning.specs.Operands.{operand}
 use Rattle.name_meaning.specs.Queries.{may_not_ask, set_chain}
 use Rattle.name_meaning.specs.Sublinks.{around_of}
 use Rattle.name_meaning.specs.Trees.{arm_of, from_item_of, from_of, item_of, join_of, part_of, set_of_tree, set_step_of, step_of}
-use Rattle.name_heights.specs.Least.{above, above_both, arm_least, chain_least, core_least, expr_least, from_least, highest, if_there, item_least, join_least, least_height, listed_least, operand_least, set_least, sources_least, step_least}
-use Rattle.name_heights.specs.High.{FromHigh, ListHigh, OperandsHigh, OptionalHigh, QueryHigh}
-use Rattle.name_heights.proofs.Chains.{grown, grown-sources, regrouped}
-use Rattle.name_heights.proofs.Equations.{both, aggregate-least, arm-least, between-least, case-least, chain-least, chain-set-least, coalesce-least, column-least, compared-least, core-least, core-set-least, exists-least, from-least, inlist-least, inner-least, inquery-least, integer-least, isdistinct-least, isnull-least, istruth-least, lateral-least, like-least, logic-least, named-least, nots-least, null-least, nullif-least, nullof-least, operand-least, paren-least, paren-set-least, plain-least, quantified-least, query-least, scalar-least, signs-least, star-least, step-least, table-star-least, text-least, truth-least, value-least}
-use Rattle.name_heights.proofs.Forms.{any-listed, any-subs, arm-high, between-high, case-high, chain-high as chained-high, coalesce-high, compared-high, condition-high, else-high, exists_tree-high, inlist-high, inquery-high, isdistinct-high, isnull-high, istruth-high, like-high, logic-high, no-condition, no-else, no-items, nots-high, nullif-high, paren-high, quantified-high, scalar_tree-high, signs-high, step-high, value-high}
-use Rattle.name_heights.proofs.Operands.{flat-high, listed-high, mapped-high, no-operands, operand-at, operand-pair}
-use Rattle.name_heights.proofs.Parts.{any-item, chain-high, chain-set, core-set, core-tree, first-high, inner-item, joins-high, lateral-tree, no-sources, paren-set, plain-tree, query-high, sources-high}
-use Rattle.name_heights.proofs.heights.+height.Goals as goal
+use Rattle.name_inside.specs.heights.Least.{above, above_both, arm_least, chain_least, core_least, expr_least, from_least, highest, if_there, item_least, join_least, least_height, listed_least, operand_least, set_least, sources_least, step_least}
+use Rattle.name_inside.specs.heights.High.{FromHigh, ListHigh, OperandsHigh, OptionalHigh, QueryHigh}
+use Rattle.name_inside.proofs.heights.Chains.{grown, grown-sources, regrouped}
+use Rattle.name_inside.proofs.heights.Equations.{both, aggregate-least, arm-least, between-least, case-least, chain-least, chain-set-least, coalesce-least, column-least, compared-least, core-least, core-set-least, exists-least, from-least, inlist-least, inner-least, inquery-least, integer-least, isdistinct-least, isnull-least, istruth-least, lateral-least, like-least, logic-least, named-least, nots-least, null-least, nullif-least, nullof-least, operand-least, paren-least, paren-set-least, plain-least, quantified-least, query-least, scalar-least, signs-least, star-least, step-least, table-star-least, text-least, truth-least, value-least}
+use Rattle.name_inside.proofs.heights.Forms.{any-listed, any-subs, arm-high, between-high, case-high, chain-high as chained-high, coalesce-high, compared-high, condition-high, else-high, exists_tree-high, inlist-high, inquery-high, isdistinct-high, isnull-high, istruth-high, like-high, logic-high, no-condition, no-else, no-items, nots-high, nullif-high, paren-high, quantified-high, scalar_tree-high, signs-high, step-high, value-high}
+use Rattle.name_inside.proofs.heights.Operands.{flat-high, listed-high, mapped-high, no-operands, operand-at, operand-pair}
+use Rattle.name_inside.proofs.heights.Parts.{any-item, chain-high, chain-set, core-set, core-tree, first-high, inner-item, joins-high, lateral-tree, no-sources, paren-set, plain-tree, query-high, sources-high}
+use Rattle.name_inside.proofs.heights.+height.Goals as goal
 
 -- ---- queries
 

@@ -14,7 +14,7 @@ use Rattle.name_meaning.specs.declared.need.Gives.{Gives}
 use Rattle.name_meaning.specs.declared.need.Need.{Need}
 use Rattle.name_laws.proofs.Every.{front-none, back-none}
 use Rattle.name_seen_cores.proofs.Forms.{mapped-behind, flat-behind}
-use Rattle.name_heights.specs.High.{ListHigh, OperandsHigh, SelectHigh, SubsHigh}
+use Rattle.name_inside.specs.heights.High.{ListHigh, OperandsHigh, SelectHigh, SubsHigh}
 
 -- ---- lists that are empty in all their parts
 

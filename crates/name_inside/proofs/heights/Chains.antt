@@ -4,7 +4,7 @@ use Rattle.std.proofs.Common.{ap, arith, get_or, refl, sym, length-take, ◌∙�
 use Rattle.std.proofs.lemmas.List.{length-map, map-append}
 use Rattle.std.proofs.lemmas.List.Sums.{fold_push}
 use Rattle.contribution.proofs.Added.{one_more}
-use Rattle.name_heights.specs.Least.{above_both, chain_least, sources_least}
+use Rattle.name_inside.specs.heights.Least.{above_both, chain_least, sources_least}
 
 pub regrouped : (a b c both all : ℕ) → both ≡ max a b → all ≡ max both c → all ≡ max a (max b c)
 regrouped a b c both all first more = omega (arith, first, more)

@@ -31,7 +31,7 @@ use Rattle.sql_tree.specs.declared.query.SetStep.{SetStep}
 use Rattle.sql_tree.specs.declared.source.FromItem.{FromItem}
 use Rattle.sql_tree.specs.declared.source.FromTree.{FromTree}
 use Rattle.sql_tree.specs.declared.source.JoinStep.{JoinStep}
-use Rattle.name_heights.specs.Least.{above, chain_least, highest, if_there, sources_least, body_step, listed_step, set_step, read_step, arm_step, step_step, expr_step, core_step, query_step, operand_step, item_step, from_step, join_step, body_least, listed_least, set_least, read_least, arm_least, step_least, expr_least, core_least, least_height, operand_least, item_least, from_least, join_least}
+use Rattle.name_inside.specs.heights.Least.{above, chain_least, highest, if_there, sources_least, body_step, listed_step, set_step, read_step, arm_step, step_step, expr_step, core_step, query_step, operand_step, item_step, from_step, join_step, body_least, listed_least, set_least, read_least, arm_least, step_least, expr_least, core_least, least_height, operand_least, item_least, from_least, join_least}
 
 pub both : {A B C : Type 0} (f : A → B → C) {a b : A} {c d : B} → a ≡ b → c ≡ d → f a c ≡ f b d
 both f e g = λ i. f (e i) (g i)
