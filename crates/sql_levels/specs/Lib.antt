@@ -1,1 +1,2 @@
 pub mod built
+pub mod primaries

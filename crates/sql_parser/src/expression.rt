@@ -10,8 +10,7 @@ ghost use Rattle.sql_parser.specs.built.Literals.{ends};
 
 use perm_values::Boxed;
 use sql_tree::{Cursor, ExprTree, Nest, QueryTree, Sort, Unread, node};
-use sql_levels::{Connectives, Predicates, Sums};
-use sql_primaries::{LITERALS, Primaries, literal};
+use sql_levels::{Connectives, LITERALS, Predicates, Primaries, Sums, literal};
 
 /// What ends an expression in a list or in parentheses.
 const ENDS: [Sort; 2] = [Sort::Comma, Sort::Closing];

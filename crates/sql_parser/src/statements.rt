@@ -12,7 +12,7 @@ use crate::recursion::{condition, expr, query};
 use perm_values::{Boxed, Chars, Kind, List, NoMemory};
 use sql_tree::{ColumnDef, Cursor, ExprTree, Script, Sort, Statement, StatementBody, Unread, ValuesRow, list_of};
 use sql_lexer::Token;
-use sql_primaries::kind_of;
+use sql_levels::kind_of;
 use std::alloc::Global;
 
 /// What begins a statement.
