@@ -3,3 +3,4 @@ pub mod Nesting
 pub mod Spells
 pub mod Texts
 pub mod built
+pub mod queries
