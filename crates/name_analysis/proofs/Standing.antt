@@ -19,11 +19,11 @@ use Rattle.name_meaning.specs.Scopes.{KnownColumn}
 use Rattle.name_meaning.specs.Statements as words
 use Rattle.name_meaning.specs.Trees.{query_of}
 use Rattle.name_meaning.specs.declared.answer.Break.{Break}
-use Rattle.name_laws.proofs.Every.{back-none, front-none}
-use Rattle.name_laws.proofs.Impacts.{impact-query_whole, impact-stands, tables-held}
-use Rattle.name_laws.proofs.Trees.{query-known}
-use Rattle.name_laws.specs.Formed.{IsAnswer}
-use Rattle.name_laws.proofs.TreeLaws.{query-answer, query-closed}
+use Rattle.name_meaning.proofs.Every.{back-none, front-none}
+use Rattle.name_meaning.proofs.Impacts.{impact-query_whole, impact-stands, tables-held}
+use Rattle.name_meaning.proofs.Trees.{query-known}
+use Rattle.name_meaning.specs.laws.Formed.{IsAnswer}
+use Rattle.name_meaning.proofs.TreeLaws.{query-answer, query-closed}
 use Rattle.name_analysis.specs.Stands.{AnswerStands, BodyStands, shown_kinds}
 use Rattle.name_meaning.specs.declared.rule.Rule.TheVariants as rule
 

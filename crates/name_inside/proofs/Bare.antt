@@ -17,8 +17,8 @@ use Rattle.name_meaning.specs.Meanings.{Meant, Part, QueryPart, Surroundings, me
 use Rattle.name_meaning.specs.Queries.{SetStepPart}
 use Rattle.name_meaning.specs.Sublinks.{around_of, breaking, exists_meant, in_argument, in_tested, scalar_meant, tested_looked, tested_meant, tested_unlooked}
 use Rattle.name_meaning.specs.Trees.{part_of}
-use Rattle.name_laws.proofs.Every.{Every, every-append, every-flat_map, every-map}
-use Rattle.name_laws.proofs.Induction.{AreKept, BodyParts, kept-part}
+use Rattle.name_meaning.proofs.Every.{Every, every-append, every-flat_map, every-map}
+use Rattle.name_meaning.proofs.Induction.{AreKept, BodyParts, kept-part}
 use Rattle.name_inside.specs.Held.{Held, held, held_arm, held_at, held_optional, held_step}
 use Rattle.name_inside.proofs.Forms.{BarePart, IsBare, bare-over, last-some, over-body}
 use Rattle.name_meaning.specs.declared.rule.Rule.TheVariants as rule

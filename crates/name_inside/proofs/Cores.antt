@@ -23,7 +23,7 @@ use Rattle.sql_tree.specs.declared.source.ScopeMark.{ScopeMark}
 use Rattle.name_meaning.proofs.Equations.{token, selectitem-star, selectitem-tablestar, selectitem-value, fromsource-named, fromsource-inner}
 use Rattle.name_meaning.specs.Cores.{BodyPart, Clauses, clause_breaks, core_clauses, core_over, core_seen, core_unlooked, group_break, group_scope, has_some, word_breaks}
 use Rattle.name_meaning.specs.Froms.{FromMeant, FromPart, ItemMeant, JoinPart, Read, SourcePart, beside_from, both_known, first_item, from_all, from_more, in_on, item_meant, join_all, join_item, label_of, optional_breaks, on_meant, read_named, read_of, scope_items, scope_name, table_columns, applied, beside_items, in_from, joined_item, in_clause, optional_inside, optional_meant, no_from}
-use Rattle.name_laws.proofs.Lateral.{join-lateral, join-plain, lateral_item, plain_item, plainly}
+use Rattle.name_meaning.proofs.Lateral.{join-lateral, join-plain, lateral_item, plain_item, plainly}
 use Rattle.sql_tree.specs.Regular.{is_lateral}
 use Rattle.sql_tree.specs.declared.source.JoinWord.{JoinWord}
 use Rattle.name_meaning.specs.Items.{SelectPart, columns_meant, items_breaks, items_inside, no_columns, star_meant, table_star_meant}
@@ -33,7 +33,7 @@ use Rattle.name_meaning.specs.Scopes.{KnownColumn, Placed, ScopeItem, item_colum
 use Rattle.name_meaning.specs.Trees.{core_of, from_item_of, from_of, item_of, join_of, part_of, query_of, set_of_tree, set_step_of, source_of}
 use Rattle.name_meaning.specs.declared.answer.Break.{Break}
 use Rattle.name_meaning.specs.declared.scope.Scope.{Scope}
-use Rattle.name_laws.proofs.Every.{front-none, back-none, whole-none, none-whole}
+use Rattle.name_meaning.proofs.Every.{front-none, back-none, whole-none, none-whole}
 use Rattle.name_meaning.proofs.Opened.{core-is, opened_from_item}
 use Rattle.name_inside.specs.Held.{Adds, Held, all_breaks, all_inside, clauses_of, condition_of, having_of, held_at, held_clauses, held_from, held_item, held_items, held_operand, held_optional, held_query, held_read, held_select, inside_in, items_of, query_alone, sources_of, AddsItem, AddsJoin, FromAdded, IsOwn}
 use Rattle.name_inside.specs.Passed.{HasScope, HasWidth, IsReadAs, PutsRead}

@@ -28,8 +28,8 @@ use Rattle.name_meaning.specs.declared.need.Need.{Need}
 use Rattle.name_meaning.specs.declared.need.Need.TheVariants.{OfKind as of_kind, Alike as alike, Free as free}
 use Rattle.name_meaning.specs.declared.scope.Found.{Found}
 use Rattle.name_meaning.specs.declared.scope.Found.TheVariants.{Absent as absent, Ambiguous as ambiguous, Column as found}
-use Rattle.name_laws.proofs.Every.{Every, every-append, every-map, every-flat_map, front-none, back-none}
-use Rattle.name_laws.proofs.Induction.{AreKept, BodyParts, kept-part}
+use Rattle.name_meaning.proofs.Every.{Every, every-append, every-map, every-flat_map, front-none, back-none}
+use Rattle.name_meaning.proofs.Induction.{AreKept, BodyParts, kept-part}
 use Rattle.name_inside.specs.Held.{Held, all_breaks, all_inside, held, held_arm, held_at, held_optional, held_query, held_step}
 use Rattle.name_inside.proofs.Over.{IsOver, breaks-append, breaks-one, both-nothing, inside-append, inside-one}
 use Rattle.name_meaning.specs.declared.rule.Rule.TheVariants as rule

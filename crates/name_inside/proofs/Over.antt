@@ -1,7 +1,7 @@
 -- A part that breaks nothing holds what its own parts hold.
 use Rattle.std.specs.Prelude.{◌≡◌, ℕ, List, [], ◌∷◌, ◌++◌, map, flat_map, Result, Ok, Err, OnOk}
 use Rattle.std.proofs.Common.{refl, ap, sym, subst, ◌∙◌, append_assoc, append-nil}
-use Rattle.name_laws.proofs.Every.{front-none, back-none}
+use Rattle.name_meaning.proofs.Every.{front-none, back-none}
 use Rattle.name_meaning.specs.Meanings.{Inside, both_inside, nothing_inside}
 use Rattle.name_meaning.specs.declared.answer.Break.{Break}
 use Rattle.name_inside.specs.Held.{Adds, Held, all_breaks, all_inside, inside_in}

@@ -9,7 +9,7 @@ use Rattle.name_meaning.specs.Froms.{FromItemPart, ItemMeant, Read, item_meant, 
 use Rattle.name_meaning.specs.Meanings.{Around}
 use Rattle.name_meaning.specs.Trees.{from_item_of, source_of}
 use Rattle.name_meaning.specs.declared.answer.Break.{Break}
-use Rattle.name_laws.proofs.Every.{front-none}
+use Rattle.name_meaning.proofs.Every.{front-none}
 use Rattle.name_seen_from.specs.Readings.{IsRead}
 use Rattle.name_seen_from.specs.declared.reading.Reading.{Reading}
 use Rattle.name_seen_parts.specs.Seen.{first_or}

@@ -6,7 +6,7 @@ use Rattle.bag_algebra.specs.declared.expr.Item.{Item}
 use Rattle.bag_algebra.specs.declared.query.Query.{Query}
 use Rattle.bag_algebra.specs.declared.query.Query.TheVariants.{Apply}
 use Rattle.sql_tree.specs.Regular.{is_lateral}
-use Rattle.name_laws.proofs.Lateral.{join-items}
+use Rattle.name_meaning.proofs.Lateral.{join-items}
 use Rattle.perm_catalog.specs.Contents.{Contents}
 use Rattle.perm_values.specs.declared.kind.Kind.{Kind}
 use Rattle.sql_tree.specs.declared.query.SelectItem.{SelectItem}

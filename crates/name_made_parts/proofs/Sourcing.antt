@@ -24,7 +24,7 @@ use Rattle.name_meaning.specs.Trees.{from_item_of, from_of, join_of, part_of, qu
 use Rattle.name_meaning.specs.declared.scope.Scope.{Scope}
 use Rattle.name_meaning.proofs.Equations.{token, fromitem-record, fromsource-inner, fromsource-named, joinstep-record-none, joinstep-record-some}
 use Rattle.name_meaning.proofs.Opened.{opened_from}
-use Rattle.name_laws.proofs.Lateral.{join-begins, join-items, join-lateral, join-plain, lateral_item, plain_item, plainly}
+use Rattle.name_meaning.proofs.Lateral.{join-begins, join-items, join-lateral, join-plain, lateral_item, plain_item, plainly}
 use Rattle.name_made_nodes.proofs.Parts.{none-first, none-second}
 use Rattle.name_made_parts.specs.Sources.{IsScope, JoinsMade, MakesBeside, MakesFrom, MakesJoin, MakesOn, MakesSource, SourcesMade, StandsIn, beside_left, text_of, join_on_kept, kept_or_yes}
 use Rattle.name_seen_parts.proofs.Scoping.{more-behind}

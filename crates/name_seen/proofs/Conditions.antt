@@ -10,7 +10,7 @@ use Rattle.name_meaning.specs.Meanings.{Meant, Part, Surroundings, broken_if, me
 use Rattle.name_meaning.specs.Sublinks.{breaking, nothing_before}
 use Rattle.name_meaning.specs.Trees.{part_of}
 use Rattle.name_meaning.specs.declared.answer.Break.{Break}
-use Rattle.name_laws.proofs.FactsOf.{both_facts-none}
+use Rattle.name_meaning.proofs.FactsOf.{both_facts-none}
 use Rattle.name_seen_parts.specs.Seen.{first_or, seen}
 use Rattle.name_seen_parts.specs.declared.refusal.Refusal.{Refusal}
 use Rattle.name_seen_parts.specs.declared.refusal.Refusal.TheVariants.{Break as Broken, NoMemory}

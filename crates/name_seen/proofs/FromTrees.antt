@@ -17,7 +17,7 @@ use Rattle.name_meaning.specs.Meanings.{Around, QueryMeant, query_means_at}
 use Rattle.name_meaning.specs.Trees.{from_item_of, from_of, join_of, query_of, source_of}
 use Rattle.name_meaning.specs.Scopes.{ScopeItem}
 use Rattle.name_meaning.specs.declared.scope.Scope.{Scope}
-use Rattle.name_laws.proofs.Lateral.{lateral_item}
+use Rattle.name_meaning.proofs.Lateral.{lateral_item}
 use Rattle.name_seen_parts.specs.Standing.{around_beside}
 use Rattle.name_meaning.proofs.Equations.{token, fromitem-record, fromsource-inner, fromsource-named, fromtree-record}
 use Rattle.name_seen_parts.specs.declared.refusal.Refusal.{Refusal}

@@ -9,9 +9,9 @@ use Rattle.name_meaning.specs.Meanings.{Meant}
 use Rattle.name_meaning.specs.Scopes.{KnownColumn, ScopeItem, scope_of}
 use Rattle.name_meaning.specs.declared.answer.Break.{Break}
 use Rattle.name_meaning.specs.declared.scope.Scope.{Scope}
-use Rattle.name_laws.specs.Facts.{facts_of, both_facts, sub_facts}
-use Rattle.name_laws.proofs.FactsOf.{both_facts-none, facts-Apply, facts-Join}
-use Rattle.name_laws.proofs.Lateral.{plainly}
+use Rattle.name_meaning.specs.laws.Facts.{facts_of, both_facts, sub_facts}
+use Rattle.name_meaning.proofs.FactsOf.{both_facts-none, facts-Apply, facts-Join}
+use Rattle.name_meaning.proofs.Lateral.{plainly}
 use Rattle.name_seen_parts.specs.Seen.{first_or}
 use Rattle.name_seen_parts.specs.declared.refusal.Refusal.{Refusal}
 use Rattle.name_seen_parts.specs.declared.refusal.Refusal.TheVariants.{Break as Broken, NoMemory}

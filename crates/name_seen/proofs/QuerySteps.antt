@@ -10,8 +10,8 @@ use Rattle.name_meaning.specs.Meanings.{Around, QueryMeant, query_means_at}
 use Rattle.name_meaning.specs.Queries.{asks_provenance, keys_breaks, query_seen}
 use Rattle.name_meaning.specs.Trees.{query_of, set_of_tree}
 use Rattle.name_meaning.specs.declared.answer.Break.{Break}
-use Rattle.name_laws.specs.Known.{HasItsKinds}
-use Rattle.name_laws.proofs.Trees.{query-known}
+use Rattle.name_meaning.specs.laws.Known.{HasItsKinds}
+use Rattle.name_meaning.proofs.Trees.{query-known}
 use Rattle.name_seen_parts.specs.Seen.{first_or}
 use Rattle.name_seen_parts.specs.declared.refusal.Refusal.{Refusal}
 use Rattle.name_seen_parts.specs.declared.refusal.Refusal.TheVariants.{Break as Broken, NoMemory}

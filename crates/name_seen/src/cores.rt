@@ -5,7 +5,7 @@ ghost use Rattle.name_meaning.specs.Froms.{FromMeant, in_clause, optional_meant}
 ghost use Rattle.name_meaning.specs.Meanings.{means_at};
 ghost use Rattle.name_meaning.specs.Scopes.{ScopeItem, scope_of};
 ghost use Rattle.name_meaning.specs.Trees.{core_of, item_of, part_of};
-ghost use Rattle.name_laws.specs.Facts.{both_facts, facts_of};
+ghost use Rattle.name_meaning.specs.laws.Facts.{both_facts, facts_of};
 ghost use Rattle.name_seen_parts.specs.Named.{scopes_of};
 ghost use Rattle.name_seen_parts.specs.Standing.{around_of};
 ghost use Rattle.name_seen_from.specs.Added.{facts_in};

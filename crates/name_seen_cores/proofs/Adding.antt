@@ -6,8 +6,8 @@ use Rattle.bag_algebra.specs.declared.query.Sublink.{Sublink}
 use Rattle.name_meaning.specs.Meanings.{Before}
 use Rattle.name_meaning.specs.Operands.{Operand, wanted_of, behind, made_parts}
 use Rattle.name_meaning.specs.declared.answer.Break.{Break}
-use Rattle.name_laws.specs.Facts.{Facts, both_facts, sub_facts}
-use Rattle.name_laws.proofs.FactsOf.{both_facts-assoc, sub_facts-append}
+use Rattle.name_meaning.specs.laws.Facts.{Facts, both_facts, sub_facts}
+use Rattle.name_meaning.proofs.FactsOf.{both_facts-assoc, sub_facts-append}
 use Rattle.name_seen_parts.specs.Seen.{seen, with_operand, after, operands_seen}
 use Rattle.name_seen_parts.specs.declared.operands.Operands.{Operands}
 

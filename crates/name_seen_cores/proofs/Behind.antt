@@ -12,8 +12,8 @@ use Rattle.name_meaning.specs.Trees.{part_of}
 use Rattle.name_meaning.specs.declared.answer.Break.{Break}
 use Rattle.name_meaning.specs.declared.need.Gives.{Gives}
 use Rattle.name_meaning.specs.declared.need.Need.{Need}
-use Rattle.name_laws.specs.Facts.{both_facts, sub_facts}
-use Rattle.name_laws.proofs.FactsOf.{both_facts-none}
+use Rattle.name_meaning.specs.laws.Facts.{both_facts, sub_facts}
+use Rattle.name_meaning.proofs.FactsOf.{both_facts-none}
 use Rattle.name_seen_parts.specs.Seen.{seen, no_operand, with_operand, whole_of, after, operands_seen}
 use Rattle.name_seen_parts.specs.declared.operands.Operands.{Operands}
 use Rattle.name_seen_parts.specs.declared.refusal.Refusal.{Refusal}

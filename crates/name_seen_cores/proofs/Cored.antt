@@ -17,8 +17,8 @@ use Rattle.name_meaning.specs.Meanings.{Around, Meant, Part, QueryMeant, is_whol
 use Rattle.name_meaning.specs.Scopes.{ScopeItem, scope_of}
 use Rattle.name_meaning.specs.declared.answer.Break.{Break}
 use Rattle.name_meaning.specs.declared.scope.Scope.{Scope}
-use Rattle.name_laws.specs.Facts.{Facts, both_facts, facts_of, sub_facts}
-use Rattle.name_laws.proofs.FactsOf.{both_facts-assoc, both_facts-none, facts-Filter, facts-Project, facts-aggregated, facts-distinct_if}
+use Rattle.name_meaning.specs.laws.Facts.{Facts, both_facts, facts_of, sub_facts}
+use Rattle.name_meaning.proofs.FactsOf.{both_facts-assoc, both_facts-none, facts-Filter, facts-Project, facts-aggregated, facts-distinct_if}
 use Rattle.name_seen_parts.specs.Seen.{first_or}
 use Rattle.name_seen_parts.specs.declared.clauses.column.ShownColumn.{ShownColumn}
 use Rattle.name_seen_parts.proofs.Firsts.{all-none, both-none, first-behind, first-behind_two, first-stays, first-stays_first, first-stays_second, none-broken}

@@ -14,7 +14,7 @@ use Rattle.name_meaning.specs.Trees.{part_of, step_of, arm_of}
 use Rattle.name_meaning.specs.declared.need.Gives.TheVariants.{Common as common}
 use Rattle.name_meaning.specs.declared.need.Need.TheVariants.{OfKind as of_kind, Alike as alike, Free as free}
 use Rattle.name_meaning.proofs.Equations.{token, exprstep-record, armtree-record}
-use Rattle.name_laws.proofs.FactsOf.{both_facts-none}
+use Rattle.name_meaning.proofs.FactsOf.{both_facts-none}
 use Rattle.name_seen_parts.specs.Seen.{with_operand}
 use Rattle.name_seen_parts.specs.declared.operands.Operands.{Operands}
 use Rattle.name_seen_parts.specs.declared.refusal.Refusal.{Refusal}

@@ -8,8 +8,8 @@ use Rattle.name_meaning.specs.Items.{SelectMeant, Titled, all_known, items_break
 use Rattle.name_meaning.specs.Meanings.{Before, OutColumn}
 use Rattle.name_meaning.specs.Operands.{behind}
 use Rattle.name_meaning.specs.declared.answer.Break.{Break}
-use Rattle.name_laws.specs.Facts.{Facts, both_facts, sub_facts}
-use Rattle.name_laws.proofs.FactsOf.{both_facts-assoc, both_facts-none, sub_facts-append}
+use Rattle.name_meaning.specs.laws.Facts.{Facts, both_facts, sub_facts}
+use Rattle.name_meaning.proofs.FactsOf.{both_facts-assoc, both_facts-none, sub_facts-append}
 use Rattle.name_seen_parts.specs.Seen.{first_or}
 use Rattle.name_seen_parts.specs.Columns.{column_of, columns_of}
 use Rattle.name_seen_parts.specs.declared.clauses.column.ShownColumn.{ShownColumn}
@@ -17,7 +17,7 @@ use Rattle.name_seen_parts.proofs.Firsts.{both-none, first-stays, first-behind}
 use Rattle.name_seen_from.specs.Added.{facts_in}
 use Rattle.name_seen_from.specs.declared.facts.Facts.{Facts as Gathered}
 use Rattle.name_seen_cores.specs.Listed.{ItemWhole, ListWhole}
-use Rattle.name_laws.proofs.KindsOf.{with_known}
+use Rattle.name_meaning.proofs.KindsOf.{with_known}
 
 -- ---- breaks
 

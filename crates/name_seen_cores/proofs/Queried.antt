@@ -19,9 +19,9 @@ use Rattle.name_meaning.specs.Froms.{named_columns}
 use Rattle.name_meaning.specs.Meanings.{Around, OutColumn, QueryMeant}
 use Rattle.name_meaning.specs.Queries.{SetStepPart, columns_so_far, keys_breaks, keys_of, limited, operand_break, operand_breaks, out_column, plain_query, columns_with_provenance, set_chain, set_joined, set_of, united_columns, may_not_ask}
 use Rattle.name_meaning.specs.declared.answer.Break.{Break}
-use Rattle.name_laws.specs.Facts.{Facts, both_facts, facts_of, no_facts}
-use Rattle.name_laws.specs.Known.{HasItsKinds}
-use Rattle.name_laws.proofs.FactsOf.{both_facts-assoc, facts-Prov, facts-set, facts-limited}
+use Rattle.name_meaning.specs.laws.Facts.{Facts, both_facts, facts_of, no_facts}
+use Rattle.name_meaning.specs.laws.Known.{HasItsKinds}
+use Rattle.name_meaning.proofs.FactsOf.{both_facts-assoc, facts-Prov, facts-set, facts-limited}
 use Rattle.name_seen_parts.specs.Seen.{first_or}
 use Rattle.name_seen_parts.specs.declared.refusal.Refusal.{Refusal}
 use Rattle.name_seen_parts.specs.declared.refusal.Refusal.TheVariants.{Break as Broken, NoMemory}
@@ -33,7 +33,7 @@ use Rattle.name_seen_from.specs.Queried.{ColumnsSeen, ColumnsWhole, QueryWhole}
 use Rattle.name_seen_from.specs.declared.facts.Facts.{Facts as Gathered}
 use Rattle.name_seen_from.specs.declared.shown.QueryShown.{QueryShown}
 use Rattle.name_seen_cores.specs.Behind.{OperandUnited, PlacesBehind, query_behind}
-use Rattle.name_laws.proofs.KindsOf.{columns-joined, known-proved}
+use Rattle.name_meaning.proofs.KindsOf.{columns-joined, known-proved}
 
 -- ---- set operations
 

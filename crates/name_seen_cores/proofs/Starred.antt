@@ -11,7 +11,7 @@ use Rattle.name_meaning.specs.Meanings.{OutColumn}
 use Rattle.name_meaning.specs.Scopes.{Placed, is_of_item, item_number, placed}
 use Rattle.name_meaning.specs.declared.scope.Scope.{Scope}
 use Rattle.name_meaning.specs.declared.scope.ScopeColumn.{ScopeColumn}
-use Rattle.name_laws.proofs.FactsOf.{both_facts-none}
+use Rattle.name_meaning.proofs.FactsOf.{both_facts-none}
 use Rattle.name_seen_parts.specs.Seen.{first_or}
 use Rattle.name_seen_parts.specs.Columns.{column_of, columns_of}
 use Rattle.name_seen_parts.specs.declared.clauses.column.ShownColumn.{ShownColumn}

@@ -12,8 +12,8 @@ use Rattle.name_meaning.specs.Sublinks.{aggregate_kind, aggregate_meant, aggrega
 use Rattle.name_meaning.specs.Trees.{query_of}
 use Rattle.name_meaning.specs.declared.answer.Break.{Break}
 use Rattle.name_meaning.proofs.Equations.{token, querytree-record}
-use Rattle.name_laws.specs.Facts.{Facts, both_facts, facts_of}
-use Rattle.name_laws.proofs.FactsOf.{both_facts-none}
+use Rattle.name_meaning.specs.laws.Facts.{Facts, both_facts, facts_of}
+use Rattle.name_meaning.proofs.FactsOf.{both_facts-none}
 use Rattle.name_seen_parts.specs.Seen.{IsSeenAs, first_or, seen}
 use Rattle.name_seen_parts.specs.declared.refusal.Refusal.{Refusal}
 use Rattle.name_seen_parts.specs.declared.refusal.Refusal.TheVariants.{Break as Broken, NoMemory}

@@ -16,7 +16,7 @@ use Rattle.name_meaning.specs.Queries.{keys_of, limited, operand_break, out_colu
 use Rattle.name_meaning.specs.Scopes.{ScopeItem}
 use Rattle.name_meaning.specs.Trees.{from_of, item_of, part_of}
 use Rattle.name_meaning.specs.declared.scope.Scope.{Scope}
-use Rattle.name_laws.specs.Facts.{both_facts, no_facts, sub_facts}
+use Rattle.name_meaning.specs.laws.Facts.{both_facts, no_facts, sub_facts}
 use Rattle.name_seen_parts.specs.Seen.{first_or}
 use Rattle.name_seen_parts.specs.declared.refusal.Refusal.{Refusal}
 use Rattle.name_seen_parts.specs.declared.refusal.Refusal.TheVariants.{Break as Broken, NoMemory}

@@ -6,7 +6,7 @@ use Rattle.name_meaning.specs.Operands.{Operand, made_parts}
 use Rattle.name_meaning.specs.declared.answer.Break.{Break}
 use Rattle.name_meaning.specs.declared.need.Gives.{Gives}
 use Rattle.name_meaning.specs.declared.need.Need.{Need}
-use Rattle.name_laws.specs.Facts.{both_facts, sub_facts}
+use Rattle.name_meaning.specs.laws.Facts.{both_facts, sub_facts}
 use Rattle.name_seen_parts.specs.Seen.{seen, with_operand, operands_seen, whole_of}
 use Rattle.name_seen_parts.specs.declared.operands.Operands.{Operands}
 use Rattle.name_seen_parts.specs.declared.refusal.Refusal.{Refusal}

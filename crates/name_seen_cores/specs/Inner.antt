@@ -4,7 +4,7 @@ use Rattle.perm_values.specs.declared.kind.Kind.{Kind}
 use Rattle.perm_values.specs.declared.kind.Kind.TheVariants as kind
 use Rattle.name_meaning.specs.Meanings.{QueryMeant, broken, broken_if, unites}
 use Rattle.name_meaning.specs.Sublinks.{is_one_column, first_kind}
-use Rattle.name_laws.specs.Facts.{facts_of, both_facts}
+use Rattle.name_meaning.specs.laws.Facts.{facts_of, both_facts}
 use Rattle.name_seen_parts.specs.Seen.{first_or}
 use Rattle.name_seen_parts.specs.declared.refusal.Refusal.{Refusal}
 use Rattle.name_seen_parts.specs.declared.refusal.Refusal.TheVariants.{Break as Broken, NoMemory}

@@ -4,7 +4,7 @@ use Rattle.perm_values.specs.declared.kind.Kind.{Kind}
 use Rattle.name_meaning.specs.Items.{SelectMeant, SelectPart, Titled, all_known, items_breaks, made_items, named_from}
 use Rattle.name_meaning.specs.Meanings.{Before, Surroundings}
 use Rattle.name_meaning.specs.declared.scope.Scope.{Scope}
-use Rattle.name_laws.specs.Facts.{both_facts, sub_facts}
+use Rattle.name_meaning.specs.laws.Facts.{both_facts, sub_facts}
 use Rattle.name_seen_parts.specs.Seen.{first_or}
 use Rattle.name_seen_parts.specs.declared.refusal.Refusal.{Refusal}
 use Rattle.name_seen_parts.specs.declared.refusal.Refusal.TheVariants.{Break as Broken, NoMemory}

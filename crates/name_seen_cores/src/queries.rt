@@ -3,13 +3,13 @@ ghost use Rattle.std.specs.Prelude.{◌≡◌, [], ℕ, ℤ, Option};
 ghost use Rattle.name_meaning.specs.Meanings.{QueryMeant};
 ghost use Rattle.name_meaning.specs.Queries.{asks_provenance};
 ghost use Rattle.name_meaning.specs.Trees.{set_of_tree};
-ghost use Rattle.name_laws.specs.Known.{HasItsKinds};
+ghost use Rattle.name_meaning.specs.laws.Known.{HasItsKinds};
 ghost use Rattle.name_seen_parts.specs.Standing.{around_of};
 ghost use Rattle.perm_catalog.specs.Contents.{Contents};
 ghost use Rattle.name_seen_from.specs.Added.{facts_in};
 ghost use Rattle.name_seen_from.specs.Queried.{ColumnsWhole, QuerySeen};
 ghost use Rattle.name_seen_from.specs.declared.facts.Facts.{Facts as Gathered};
-ghost use Rattle.name_laws.specs.Facts.{no_facts};
+ghost use Rattle.name_meaning.specs.laws.Facts.{no_facts};
 ghost use Rattle.name_seen_cores.specs.Behind.{query_behind};
 
 use crate::places::with_places;

@@ -9,8 +9,8 @@ use Rattle.name_meaning.specs.Meanings.{broken_if}
 use Rattle.name_meaning.specs.Scopes.{KnownColumn}
 use Rattle.name_meaning.specs.declared.answer.Break.{Break}
 use Rattle.name_meaning.specs.declared.scope.Scope.{Scope}
-use Rattle.name_laws.proofs.Every.{front-none, unbroken-not}
-use Rattle.name_laws.specs.Facts.{both_facts}
+use Rattle.name_meaning.proofs.Every.{front-none, unbroken-not}
+use Rattle.name_meaning.specs.laws.Facts.{both_facts}
 use Rattle.name_seen_parts.specs.Seen.{first_or}
 use Rattle.name_seen_from.specs.Added.{facts_in}
 use Rattle.name_seen_from.specs.Marks.{IsMarked}

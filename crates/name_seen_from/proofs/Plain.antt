@@ -15,7 +15,7 @@ use Rattle.perm_values.specs.declared.kind.Kind.{Kind}
 use Rattle.perm_values.specs.declared.no_memory.NoMemory.{NoMemory}
 use Rattle.name_meaning.specs.Froms.{all_places, external, names_at, names_of, read_query, read_view, settled_columns, table_plain}
 use Rattle.name_meaning.specs.Meanings.{OutColumn, QueryMeant}
-use Rattle.name_laws.specs.Facts.{Facts, facts_of}
+use Rattle.name_meaning.specs.laws.Facts.{Facts, facts_of}
 use Rattle.name_seen_parts.specs.Columns.{columns_of}
 use Rattle.name_seen_from.specs.Added.{facts_in}
 use Rattle.name_seen_from.specs.Queried.{QueryWhole}

@@ -15,8 +15,8 @@ use Rattle.name_meaning.specs.Froms.{FromMeant, FromPart, Read, all_places, besi
 use Rattle.name_meaning.specs.Scopes.{KnownColumn, ScopeItem, scope_of}
 use Rattle.name_meaning.specs.declared.answer.Break.{Break}
 use Rattle.name_meaning.specs.declared.scope.Scope.{Scope}
-use Rattle.name_laws.specs.Facts.{Facts, facts_of, both_facts, source_facts}
-use Rattle.name_laws.proofs.FactsOf.{facts-Base, facts-Join_alone, both_facts-assoc, both_facts-none}
+use Rattle.name_meaning.specs.laws.Facts.{Facts, facts_of, both_facts, source_facts}
+use Rattle.name_meaning.proofs.FactsOf.{facts-Base, facts-Join_alone, both_facts-assoc, both_facts-none}
 use Rattle.name_seen_parts.specs.Seen.{first_or}
 use Rattle.name_seen_from.specs.Added.{facts_in}
 use Rattle.name_seen_parts.specs.Marks.{places_of}

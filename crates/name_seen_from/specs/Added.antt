@@ -1,5 +1,5 @@
 -- The facts that the code gathers, as the laws of names see them.
-use Rattle.name_laws.specs.Facts.{Facts}
+use Rattle.name_meaning.specs.laws.Facts.{Facts}
 use Rattle.name_seen_from.specs.declared.facts.Facts.{Facts as Gathered}
 
 abbrev pub facts_in : Gathered → Facts

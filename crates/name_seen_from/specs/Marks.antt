@@ -6,7 +6,7 @@ use Rattle.perm_values.specs.declared.kind.Kind.{Kind}
 use Rattle.sql_tree.specs.declared.source.ScopeMark.{ScopeMark}
 use Rattle.sql_tree.specs.declared.source.ScopeMark.TheVariants as mark
 use Rattle.name_meaning.specs.Froms.{texts_of}
-use Rattle.name_laws.specs.Facts.{Facts, source_facts}
+use Rattle.name_meaning.specs.laws.Facts.{Facts, source_facts}
 use Rattle.name_seen_from.specs.Added.{facts_in}
 use Rattle.name_seen_parts.specs.FromColumns.{known_names}
 use Rattle.name_seen_parts.specs.Marks.{places_of}

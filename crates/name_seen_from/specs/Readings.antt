@@ -6,7 +6,7 @@ use Rattle.bag_algebra.specs.Kinds.{kinds_of, kinds_in}
 use Rattle.bag_algebra.specs.declared.query.Label.TheVariants.{Relation, External}
 use Rattle.name_meaning.specs.Froms.{Read, ItemMeant, table_columns, names_at, all_places}
 use Rattle.name_meaning.specs.declared.scope.Scope.{Scope}
-use Rattle.name_laws.specs.Facts.{Facts, facts_of, both_facts, source_facts}
+use Rattle.name_meaning.specs.laws.Facts.{Facts, facts_of, both_facts, source_facts}
 use Rattle.name_seen_parts.specs.Seen.{first_or}
 use Rattle.name_seen_parts.specs.declared.refusal.Refusal.{Refusal}
 use Rattle.name_seen_parts.specs.declared.refusal.Refusal.TheVariants.{Break as Broken, NoMemory}

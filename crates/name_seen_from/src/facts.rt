@@ -1,5 +1,5 @@
 ghost use Rattle.std.specs.Prelude.{◌≡◌, IfOk, OnOk};
-ghost use Rattle.name_laws.specs.Facts.{no_facts, both_facts, source_facts};
+ghost use Rattle.name_meaning.specs.laws.Facts.{no_facts, both_facts, source_facts};
 ghost use Rattle.name_seen_from.specs.Added.{facts_in};
 
 use bag_algebra::Place;

@@ -2,7 +2,7 @@
 ghost use Rattle.std.specs.Prelude.{◌≡◌, IfOk};
 ghost use Rattle.bag_algebra.specs.Kinds.{kinds_in};
 ghost use Rattle.bag_algebra.specs.declared.query.Label.TheVariants.{External};
-ghost use Rattle.name_laws.specs.Facts.{source_facts};
+ghost use Rattle.name_meaning.specs.laws.Facts.{source_facts};
 ghost use Rattle.name_meaning.specs.Froms.{label_of, texts_of};
 ghost use Rattle.name_meaning.specs.Trees.{source_of};
 ghost use Rattle.perm_catalog.specs.Contents.{Contents};

@@ -2,7 +2,7 @@
 ghost use Rattle.std.specs.Prelude.{◌≡◌, ℕ, List as Items, IfOk};
 ghost use Rattle.std.specs.Option.{option_map_or};
 ghost use Rattle.bag_algebra.specs.Kinds.{kinds_of};
-ghost use Rattle.name_laws.specs.Facts.{facts_of};
+ghost use Rattle.name_meaning.specs.laws.Facts.{facts_of};
 ghost use Rattle.name_meaning.specs.Froms.{read_named, read_query, read_table, read_view, table_plain};
 ghost use Rattle.name_meaning.specs.Meanings.{QueryMeant};
 ghost use Rattle.perm_catalog.specs.Columns.{column_kinds};

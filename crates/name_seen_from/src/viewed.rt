@@ -1,7 +1,7 @@
 //! The facts of a query that is made.
 ghost use Rattle.std.specs.Prelude.{◌≡◌, IfOk};
 ghost use Rattle.bag_algebra.specs.Kinds.{kinds_in};
-ghost use Rattle.name_laws.specs.Facts.{facts_of};
+ghost use Rattle.name_meaning.specs.laws.Facts.{facts_of};
 ghost use Rattle.name_seen_from.specs.Added.{facts_in};
 
 use crate::facts::Facts;

@@ -31,7 +31,7 @@ use Rattle.std.proofs.Math.ListN.{drop_of_length-le}
 use Rattle.name_seen_parts.specs.Columns.{columns_of}
 use Rattle.name_seen_parts.specs.declared.clauses.column.ShownColumn.{ShownColumn}
 use Rattle.name_seen_parts.proofs.Firsts.{dropped, first-stays, flat-first}
-use Rattle.name_sets.specs.Named.{is_named}
+use Rattle.name_meaning.specs.sets.Named.{is_named}
 use Rattle.name_statements.specs.Earlier.{column_break, is_defined, is_shown, texts_of}
 use Rattle.name_meaning.specs.declared.rule.Rule.TheVariants as rule
 

@@ -20,7 +20,7 @@ use Rattle.name_seen_parts.specs.declared.refusal.Refusal.{Refusal}
 use Rattle.name_seen_parts.specs.declared.refusal.Refusal.TheVariants.{Break as Broken}
 use Rattle.name_statements.specs.Resolves.{IsWhole, ResolvesBody, ResolvesBy, WholeSeen, body_breaks, stored_breaks}
 use Rattle.name_statements.specs.declared.queries.Whole.{Whole}
-use Rattle.name_laws.proofs.Every.{back-none, front-none}
+use Rattle.name_meaning.proofs.Every.{back-none, front-none}
 use Rattle.name_statements.proofs.Bodies.{limited_by, limits-behind}
 use Rattle.name_statements.proofs.Refused.{Refuses, behind, by-whole, of-limits, of-names, resolves-not, stays}
 use Rattle.name_meaning.specs.declared.rule.Rule.TheVariants as rule

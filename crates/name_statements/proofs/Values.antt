@@ -6,7 +6,7 @@ use Rattle.std.proofs.Math.ListN.{drop_of_length-le}
 use Rattle.bag_algebra.specs.declared.expr.Expr.{Expr}
 use Rattle.name_seen_parts.proofs.Firsts.{dropped}
 use Rattle.name_statements.proofs.Broken.{value-before, value_break}
-use Rattle.name_laws.proofs.Every.{back-none, front-none}
+use Rattle.name_meaning.proofs.Every.{back-none, front-none}
 use Rattle.name_made_nodes.specs.Makes.{Makes, before_of, nothing_found}
 use Rattle.name_made_nodes.specs.declared.within.Within.{Within}
 use Rattle.name_meaning.specs.Meanings.{Meant, Surroundings, broken, means_at}

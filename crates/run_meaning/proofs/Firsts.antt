@@ -21,7 +21,7 @@ use Rattle.perm_io.specs.Found as found
 use Rattle.sql_tree.specs.declared.statement.Statement.{Statement}
 use Rattle.sql_tree.specs.declared.statement.StatementBody.{StatementBody}
 use Rattle.sql_tree.specs.declared.statement.StatementBody.TheVariants as st
-use Rattle.name_laws.proofs.Every.{Every}
+use Rattle.name_meaning.proofs.Every.{Every}
 use Rattle.name_seen_parts.specs.Seen.{first_or}
 use Rattle.name_meaning.specs.Meanings.{QueryMeant, broken}
 use Rattle.name_meaning.specs.Statements.{answer_of, breaks, columns_of, defined_columns, delete_made, impact_query, kinds_of_table, query_meant, resolved, resolved_body, rows_made, stored_columns}

@@ -17,7 +17,7 @@ use Rattle.sql_tree.specs.declared.query.OrderTree.{OrderTree}
 use Rattle.sql_tree.specs.declared.query.SetTree.{SetTree}
 use Rattle.sql_tree.specs.declared.query.SetWord.{SetWord}
 use Rattle.sql_tree.specs.declared.query.SetWord.TheVariants as word
-use Rattle.name_laws.proofs.Induction.{AreKept, CoreParts, SetParts, kept-set}
+use Rattle.name_meaning.proofs.Induction.{AreKept, CoreParts, SetParts, kept-set}
 use Rattle.name_meaning.proofs.Equations.{CoreFrame, QueryTreeFrame, SetTreeFrame}
 use Rattle.name_meaning.specs.Cores.{BodyPart, Clauses, aggregated_input, before_list, clauses_query, core_clauses, core_over, core_step, core_unlooked, distinct_if, filtered, group_scope, has_some, list_columns, optional_built, settle_known, word_breaks}
 use Rattle.name_meaning.specs.Froms.{FromMeant, from_all, in_clause}

@@ -12,9 +12,9 @@ use Rattle.bag_algebra.specs.TableRows.{rows_in}
 use Rattle.bag_algebra.specs.declared.expr.Expr.{Expr}
 use Rattle.bag_algebra.specs.declared.query.Answer.{Answer}
 use Rattle.bag_algebra.specs.declared.query.Query.{Query}
-use Rattle.name_laws.proofs.FittingTables.{tables-fit}
-use Rattle.name_laws.proofs.Impacts.{impact-query_whole, impact-stands}
-use Rattle.name_laws.specs.Impacts.{ImpactStands}
+use Rattle.name_meaning.proofs.FittingTables.{tables-fit}
+use Rattle.name_meaning.proofs.Impacts.{impact-query_whole, impact-stands}
+use Rattle.name_meaning.specs.laws.Impacts.{ImpactStands}
 use Rattle.name_meaning.specs.Queries.{may_not_ask}
 use Rattle.name_meaning.specs.Statements.{alone, answer_of, delete_made, impact_query, name_breaks, resolved, resolved_body}
 use Rattle.name_meaning.specs.declared.answer.Resolved.{Resolved}

@@ -12,7 +12,7 @@ use Rattle.sql_tree.specs.declared.query.SetTree.{SetTree}
 use Rattle.sql_tree.specs.declared.statement.Statement.{Statement}
 use Rattle.sql_tree.specs.declared.statement.StatementBody.{StatementBody}
 use Rattle.sql_tree.specs.declared.statement.StatementBody.TheVariants as st
-use Rattle.name_laws.proofs.Every.{back-none, front-none}
+use Rattle.name_meaning.proofs.Every.{back-none, front-none}
 use Rattle.name_meaning.proofs.Equations.{token, querytree-record, settree-chain, settree-core}
 use Rattle.name_meaning.proofs.Opened.{Layer_core, opened_core, shown_core}
 use Rattle.name_meaning.specs.Cores.{BodyPart, core_step}

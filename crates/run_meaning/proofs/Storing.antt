@@ -7,7 +7,7 @@ use Rattle.bag_algebra.specs.Meaning.{meaning}
 use Rattle.bag_algebra.specs.Outcome.{Outcome, Good, Bad}
 use Rattle.bag_algebra.specs.TableRows.{rows_in}
 use Rattle.bag_algebra.specs.declared.query.Answer.{Answer}
-use Rattle.name_laws.proofs.Every.{back-none}
+use Rattle.name_meaning.proofs.Every.{back-none}
 use Rattle.name_meaning.specs.Meanings.{QueryMeant, broken}
 use Rattle.name_meaning.specs.Queries.{count_columns, provenance_places}
 use Rattle.name_meaning.specs.Statements.{answer_of, breaks, columns_of, limit_breaks, name_breaks, query_limits, query_meant, resolved, resolved_body, stored_columns, table_limit}

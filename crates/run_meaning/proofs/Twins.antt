@@ -13,7 +13,7 @@ use Rattle.sql_tree.specs.declared.query.SetTree.{SetTree}
 use Rattle.sql_tree.specs.declared.statement.Statement.{Statement}
 use Rattle.sql_tree.specs.declared.statement.StatementBody.{StatementBody}
 use Rattle.sql_tree.specs.declared.statement.StatementBody.TheVariants as st
-use Rattle.name_laws.proofs.Every.{front-none, back-none}
+use Rattle.name_meaning.proofs.Every.{front-none, back-none}
 use Rattle.name_meaning.specs.Meanings.{OutColumn, QueryMeant, broken, broken_if, is_whole}
 use Rattle.name_meaning.specs.Queries.{columns_with_provenance, count_columns, plain_query, provenance_columns, query_with_provenance}
 use Rattle.name_meaning.specs.Statements.{breaks, greatest_height, limit_breaks, most_operators, most_query_columns, name_breaks, query_limits, size_limit, width_limit}

@@ -32,11 +32,11 @@ use Rattle.name_meaning.specs.Statements.{alone, bare, breaks, columns_of, defin
 use Rattle.name_meaning.specs.Sublinks.{nothing_before}
 use Rattle.name_meaning.specs.Trees.{part_of}
 use Rattle.name_meaning.specs.declared.answer.Break.{Break}
-use Rattle.name_laws.proofs.Every.{front-none, back-none}
-use Rattle.name_laws.specs.Formed.{IsAnswer, IsFormedExpr}
-use Rattle.name_laws.specs.Standing.{StandAt, AggregatesStand}
-use Rattle.name_laws.proofs.TreeLaws.{expr-formed, query-answer}
-use Rattle.name_laws.proofs.Named.{view-reads}
+use Rattle.name_meaning.proofs.Every.{front-none, back-none}
+use Rattle.name_meaning.specs.laws.Formed.{IsAnswer, IsFormedExpr}
+use Rattle.name_meaning.specs.laws.Standing.{StandAt, AggregatesStand}
+use Rattle.name_meaning.proofs.TreeLaws.{expr-formed, query-answer}
+use Rattle.name_meaning.proofs.Named.{view-reads}
 use Rattle.statement_meaning.proofs.Ready.{names-whole, sound-answer, unbroken, not-false, left-false, right-false}
 use Rattle.statement_meaning.proofs.Stored.{answer-adds}
 use Rattle.statement_meaning.specs.laws.Sounder.{AddsSoundly, HaveKinds, RowsHaveKinds}

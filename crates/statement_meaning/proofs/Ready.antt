@@ -24,12 +24,12 @@ use Rattle.name_meaning.specs.Froms.{names_of, settled_columns}
 use Rattle.name_meaning.specs.Queries.{may_not_ask}
 use Rattle.name_meaning.specs.Statements.{alone, answer_of, columns_of, delete_made, has_boolean, impact_query, query_meant, breaks, name_breaks, limit_breaks, named_query_breaks, on_table, repeated_columns, repeats, resolved, resolved_body, taken, unknown_table, unknown_view, used, view_entry}
 use Rattle.name_meaning.specs.declared.answer.Break.{Break}
-use Rattle.name_laws.proofs.Every.{front-none, back-none}
-use Rattle.name_laws.proofs.Impacts.{impact-stands}
-use Rattle.name_laws.proofs.Named.{view-reads}
-use Rattle.name_laws.proofs.TreeLaws.{query-answer, query-closed, query-wide}
-use Rattle.name_laws.proofs.FittingTables.{tables-fit}
-use Rattle.name_laws.specs.Formed.{IsAnswer}
+use Rattle.name_meaning.proofs.Every.{front-none, back-none}
+use Rattle.name_meaning.proofs.Impacts.{impact-stands}
+use Rattle.name_meaning.proofs.Named.{view-reads}
+use Rattle.name_meaning.proofs.TreeLaws.{query-answer, query-closed, query-wide}
+use Rattle.name_meaning.proofs.FittingTables.{tables-fit}
+use Rattle.name_meaning.specs.laws.Formed.{IsAnswer}
 use Rattle.stored_provenance.specs.Held.{IsHeldTable}
 use Rattle.statement_meaning.specs.Ready.{CanExplain, CanLose, CanRun, IsReady}
 use Rattle.name_meaning.specs.declared.rule.Rule.TheVariants as rule

@@ -29,12 +29,12 @@ use Rattle.name_meaning.specs.Scopes.{KnownColumn}
 use Rattle.name_meaning.specs.Statements.{alone, columns_of, has_boolean, name_breaks, named_query_breaks, query_meant, repeats, stored_columns, taken}
 use Rattle.name_meaning.specs.Trees.{set_of_tree}
 use Rattle.name_meaning.specs.declared.rule.Rule.TheVariants as rule
-use Rattle.name_laws.proofs.Every.{back-none}
-use Rattle.name_laws.proofs.KindsOf.{kinds-settled_columns}
-use Rattle.name_laws.proofs.TreeLaws.{query-answer, query-closed, query-wide}
-use Rattle.name_laws.proofs.Trees.{query-known}
-use Rattle.name_laws.specs.Formed.{IsAnswer}
-use Rattle.name_laws.specs.Known.{HasItsKinds, column_kinds_of}
+use Rattle.name_meaning.proofs.Every.{back-none}
+use Rattle.name_meaning.proofs.KindsOf.{kinds-settled_columns}
+use Rattle.name_meaning.proofs.TreeLaws.{query-answer, query-closed, query-wide}
+use Rattle.name_meaning.proofs.Trees.{query-known}
+use Rattle.name_meaning.specs.laws.Formed.{IsAnswer}
+use Rattle.name_meaning.specs.laws.Known.{HasItsKinds, column_kinds_of}
 use Rattle.statement_meaning.proofs.Ready.{left-false, right-false, named-whole, query-whole, tables-held, unbroken}
 use Rattle.statement_meaning.proofs.Words.{opened}
 use Rattle.statement_meaning.specs.laws.Sounder.{AddsAnswer, AsksAt}

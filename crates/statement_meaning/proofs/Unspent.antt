@@ -53,8 +53,8 @@ use Rattle.name_meaning.specs.declared.need.Need.TheVariants.{OfKind as of_kind,
 use Rattle.name_meaning.specs.declared.scope.Found.{Found}
 use Rattle.name_meaning.specs.declared.scope.Found.TheVariants as column
 use Rattle.name_meaning.specs.declared.scope.Scope.{Scope}
-use Rattle.name_laws.proofs.Every.{Every, every-append, every-flat_map, every-map}
-use Rattle.name_laws.proofs.Induction.{BodyParts, ItemParts, SetParts, SourceParts, CoreParts, Optional, AreKept, kept-part, kept-query}
+use Rattle.name_meaning.proofs.Every.{Every, every-append, every-flat_map, every-map}
+use Rattle.name_meaning.proofs.Induction.{BodyParts, ItemParts, SetParts, SourceParts, CoreParts, Optional, AreKept, kept-part, kept-query}
 use Rattle.name_meaning.specs.declared.rule.Rule.TheVariants as rule
 use Rattle.name_meaning.specs.declared.rule.Rule.{Rule}
 use Rattle.name_meaning.specs.Codes.{code_of}

@@ -37,8 +37,8 @@ use Rattle.name_meaning.specs.Queries.{SetStepPart, keys_breaks, keys_of, limite
 use Rattle.name_meaning.specs.Statements.{alone, answer_of, name_breaks, query_meant, resolved_body}
 use Rattle.name_meaning.specs.Trees.{body_of, item_of, set_of_tree, source_of, arm_of, step_of, part_of, core_of, query_of, set_step_of, from_item_of, from_of, join_of}
 use Rattle.name_meaning.specs.declared.answer.Break.{Break}
-use Rattle.name_laws.proofs.Every.{front-none}
-use Rattle.name_laws.proofs.Trees.{set-known}
+use Rattle.name_meaning.proofs.Every.{front-none}
+use Rattle.name_meaning.proofs.Trees.{set-known}
 use Rattle.statement_meaning.proofs.Ready.{names-whole}
 use Rattle.statement_meaning.proofs.Answered.{same_answer}
 use Rattle.statement_meaning.specs.laws.Asks.{AsksFor, HasWord, IsResolved, WithoutWord, in_core, in_first, plain_core, plain_first, shown_names, with_body}

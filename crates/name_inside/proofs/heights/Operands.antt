@@ -12,7 +12,7 @@ use Rattle.name_meaning.specs.Operands.{Operand, alike_wanted, behind, first_unf
 use Rattle.name_meaning.specs.declared.answer.Break.{Break}
 use Rattle.name_meaning.specs.declared.need.Gives.{Gives}
 use Rattle.name_meaning.specs.declared.need.Need.{Need}
-use Rattle.name_laws.proofs.Every.{front-none, back-none}
+use Rattle.name_meaning.proofs.Every.{front-none, back-none}
 use Rattle.name_seen_cores.proofs.Forms.{mapped-behind, flat-behind}
 use Rattle.name_inside.specs.heights.High.{ListHigh, OperandsHigh, SelectHigh, SubsHigh}
 

@@ -33,10 +33,10 @@ use Rattle.name_meaning.specs.Queries.{SetStepPart, asks_provenance, columns_so_
 use Rattle.name_meaning.specs.Scopes.{KnownColumn, ScopeItem, scope_of}
 use Rattle.name_meaning.specs.Trees.{core_of, from_item_of, from_of, item_of, join_of, part_of, query_of, set_of_tree, set_step_of, source_of}
 use Rattle.name_meaning.specs.declared.scope.Scope.{Scope}
-use Rattle.name_laws.proofs.Every.{back-none, front-none, none-whole, whole-none}
-use Rattle.name_laws.proofs.Lateral.{join-lateral, join-plain, lateral_item, plain_item, plainly}
-use Rattle.name_laws.proofs.Trees.{item-known}
-use Rattle.name_laws.specs.Known.{ItemIsKnown}
+use Rattle.name_meaning.proofs.Every.{back-none, front-none, none-whole, whole-none}
+use Rattle.name_meaning.proofs.Lateral.{join-lateral, join-plain, lateral_item, plain_item, plainly}
+use Rattle.name_meaning.proofs.Trees.{item-known}
+use Rattle.name_meaning.specs.laws.Known.{ItemIsKnown}
 use Rattle.name_made_parts.proofs.AskedListing.{mapped}
 use Rattle.name_made_parts.proofs.Sourcing.{join-fields, joins-append}
 use Rattle.name_made_parts.specs.Cored.{items_meant}

@@ -61,7 +61,7 @@ use Rattle.name_seen.proofs.Conditions.{some-condition}
 use Rattle.name_seen.proofs.CoreSteps.{core-answered, from-answered, from-refused, groups-refused, has-from, having-refused, where-refused, word-refused}
 use Rattle.name_seen.proofs.FromTrees.{from-means, inner-read, item-refused, item-means, joined-condition, joined-item, joined-word, lateral-means, named-read, read-refused}
 use Rattle.name_seen.proofs.Joined.{first-refused, first-whole, join-behind, join-refused, joins-behind, lateral-seen, never-if_ok, never-ok, none-held, nothing-read, source-refused, step-refused, whatever-ok}
-use Rattle.name_laws.proofs.Lateral.{join-lateral, join-plain, lateral_item, plain_item}
+use Rattle.name_meaning.proofs.Lateral.{join-lateral, join-plain, lateral_item, plain_item}
 use Rattle.sql_tree.specs.Regular.{is_lateral}
 use Rattle.name_seen.specs.Joining.{JoinSeen}
 use Rattle.name_seen_from.proofs.Sourced.{source-behind}

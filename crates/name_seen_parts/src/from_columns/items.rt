@@ -10,8 +10,7 @@ ghost use Rattle.perm_catalog.specs.Contents.{Contents};
 ghost use Rattle.name_seen_parts.specs.FromColumns.{known_names};
 
 use crate::from_columns::marks::mark_break;
-use name_meaning::{Break, Rule};
-use name_sets::Names;
+use name_meaning::{Break, Names, Rule};
 use perm_catalog::Column;
 use perm_values::{Chars, Copyable, NoMemory};
 use sql_tree::{FromItem, FromSource};

@@ -1,5 +1,0 @@
-use Rattle.name_laws.proofs.TreeLaws.{expr-formed}
-use Rattle.name_laws.proofs.forms.laws.expressions_are_well_formed.Goals as goal
-
-pub returns : goal.returns
-returns c catalog tree here sound regular whole wanted before = expr-formed catalog tree here sound regular whole wanted before

@@ -1,5 +1,0 @@
-use Rattle.name_laws.proofs.Trees.{from-known}
-use Rattle.name_laws.proofs.laws.from_is_known.Goals as goal
-
-pub returns : goal.returns
-returns c catalog tree outer earlier sound whole = from-known catalog tree outer earlier sound whole

@@ -1,5 +1,0 @@
-use Rattle.name_laws.proofs.Impacts.{impact-stands}
-use Rattle.name_laws.proofs.statements.laws.impacts_can_be_answered.Goals as goal
-
-pub returns : goal.returns
-returns c catalog table condition query sound regular whole = impact-stands catalog sound table condition query regular whole
