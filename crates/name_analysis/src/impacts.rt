@@ -5,7 +5,7 @@ ghost use Rattle.name_meaning.specs.Meanings.{query_means_at};
 ghost use Rattle.name_meaning.specs.Statements as words;
 ghost use Rattle.name_meaning.specs.Trees.{query_of};
 ghost use Rattle.perm_catalog.specs.Sound.{IsSound};
-ghost use Rattle.name_seen_from.specs.Queried.{QueryWhole};
+ghost use Rattle.name_seen_cores.specs.from.Queried.{QueryWhole};
 ghost use Rattle.sql_tree.specs.declared.statement.StatementBody.TheVariants as asked;
 ghost use Rattle.name_statements.specs.Resolves.{AskedSeen, ResolvesBody};
 
@@ -14,7 +14,7 @@ use name_made::query_made;
 use name_made_parts::keys_of;
 use name_meaning::Resolved;
 use name_seen::query_seen;
-use name_seen_from::QueryShown;
+use name_seen_cores::QueryShown;
 use name_seen_parts::{Around, Refusal, Scopes};
 use name_statements::{
     Whole, gathered_within, impact_of, let_condition_go, let_query_go, monotone_made, monotone_with,

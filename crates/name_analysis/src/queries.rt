@@ -6,7 +6,7 @@ ghost use Rattle.name_meaning.specs.Statements as words;
 ghost use Rattle.name_meaning.specs.Trees.{query_of};
 ghost use Rattle.name_meaning.specs.declared.answer.Resolved.TheVariants as answered;
 ghost use Rattle.perm_catalog.specs.Sound.{IsSound};
-ghost use Rattle.name_seen_from.specs.Queried.{QueryWhole};
+ghost use Rattle.name_seen_cores.specs.from.Queried.{QueryWhole};
 ghost use Rattle.sql_tree.specs.declared.name.Name.{Name as Called};
 ghost use Rattle.sql_tree.specs.declared.statement.StatementBody.TheVariants as asked;
 ghost use Rattle.name_statements.specs.Resolves.{ResolvesBody, ResolvesBy, WholeSeen};
@@ -15,7 +15,7 @@ use name_made::query_made;
 use name_made_parts::keys_of;
 use name_meaning::Resolved;
 use name_seen::query_seen;
-use name_seen_from::QueryShown;
+use name_seen_cores::QueryShown;
 use name_seen_parts::{Around, Refusal, Scopes};
 use name_statements::{
     Whole, answer_of, around_alone, entry_of, gathered_within, let_query_go, repeats_break,

@@ -10,8 +10,8 @@ use Rattle.name_meaning.specs.Meanings.{Around}
 use Rattle.name_meaning.specs.Trees.{from_item_of, source_of}
 use Rattle.name_meaning.specs.declared.answer.Break.{Break}
 use Rattle.name_meaning.proofs.Every.{front-none}
-use Rattle.name_seen_from.specs.Readings.{IsRead}
-use Rattle.name_seen_from.specs.declared.reading.Reading.{Reading}
+use Rattle.name_seen_cores.specs.from.Readings.{IsRead}
+use Rattle.name_seen_cores.specs.declared.from.reading.Reading.{Reading}
 use Rattle.name_seen_parts.specs.Seen.{first_or}
 use Rattle.name_inside.specs.Passed.{IsKnownAs, IsReadAs}
 

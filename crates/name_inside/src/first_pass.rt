@@ -13,8 +13,7 @@ ghost use Rattle.name_inside.specs.Passed.{HasScope, HasWidth, IsReadAs, PutsRea
 use name_made_parts::scope_or_none;
 use name_meaning::Scope;
 use name_seen::{query_seen, read_source};
-use name_seen_cores::behind_groups;
-use name_seen_from::Reading;
+use name_seen_cores::{Reading, behind_groups};
 use name_seen_parts::{Around, Refusal, add_item, scope_name};
 use perm_catalog::Column;
 use perm_values::{Chars, List, NoMemory};

@@ -17,8 +17,8 @@ use Rattle.name_seen_parts.specs.declared.refusal.Refusal.TheVariants.{Break as 
 use Rattle.name_seen_parts.proofs.Arms.{means-is, part-at}
 use Rattle.name_seen_parts.specs.Told.{Tells}
 use Rattle.name_seen_parts.proofs.Firsts.{first-stays, none-broken}
-use Rattle.name_seen_from.specs.Added.{facts_in}
-use Rattle.name_seen_from.specs.declared.facts.Facts.{Facts as Gathered}
+use Rattle.name_seen_cores.specs.from.Added.{facts_in}
+use Rattle.name_seen_cores.specs.declared.from.facts.Facts.{Facts as Gathered}
 use Rattle.name_seen_cores.specs.Behind.{ConditionSeen, ConditionWhole, optional_part}
 use Rattle.name_seen_cores.specs.Expressed.{ExpressionSeen}
 use Rattle.name_seen_cores.proofs.Alone.{told-so}

@@ -16,9 +16,9 @@ use Rattle.name_seen_parts.specs.Seen.{first_or}
 use Rattle.name_seen_parts.specs.declared.refusal.Refusal.{Refusal}
 use Rattle.name_seen_parts.specs.declared.refusal.Refusal.TheVariants.{Break as Broken, NoMemory}
 use Rattle.name_seen_parts.specs.declared.clauses.column.ShownColumn.{ShownColumn}
-use Rattle.name_seen_from.specs.Added.{facts_in}
-use Rattle.name_seen_from.specs.Queried.{ColumnsSeen, FromSeen, FromWhole}
-use Rattle.name_seen_from.specs.declared.facts.Facts.{Facts as Gathered}
+use Rattle.name_seen_cores.specs.from.Added.{facts_in}
+use Rattle.name_seen_cores.specs.from.Queried.{ColumnsSeen, FromSeen, FromWhole}
+use Rattle.name_seen_cores.specs.declared.from.facts.Facts.{Facts as Gathered}
 use Rattle.name_seen_cores.specs.Behind.{ConditionSeen, ConditionWhole, GroupsSeen, GroupsWhole, core_behind, optional_part}
 use Rattle.name_seen_cores.specs.Listed.{ListSeen, seen_at}
 use Rattle.name_seen_cores.proofs.Cored.{core-whole, groups-break, having-breaks, list-breaks, looked, unlooked-breaks, where-breaks, word-breaks, word-fine}

@@ -22,9 +22,9 @@ use Rattle.name_seen_parts.specs.Standing.{around_beside}
 use Rattle.name_meaning.proofs.Equations.{token, fromitem-record, fromsource-inner, fromsource-named, fromtree-record}
 use Rattle.name_seen_parts.specs.declared.refusal.Refusal.{Refusal}
 use Rattle.name_seen_parts.specs.declared.refusal.Refusal.TheVariants.{Break as Broken, NoMemory}
-use Rattle.name_seen_from.specs.Queried.{FromWhole, QuerySeen}
-use Rattle.name_seen_from.specs.declared.facts.Facts.{Facts as Gathered}
-use Rattle.name_seen_from.specs.Readings.{ItemSeen, ReadSeen}
+use Rattle.name_seen_cores.specs.from.Queried.{FromWhole, QuerySeen}
+use Rattle.name_seen_cores.specs.declared.from.facts.Facts.{Facts as Gathered}
+use Rattle.name_seen_cores.specs.from.Readings.{ItemSeen, ReadSeen}
 use Rattle.name_seen_cores.specs.Behind.{optional_part}
 use Rattle.name_seen_parts.proofs.Firsts.{first-stays_first, none-broken}
 use Rattle.name_meaning.proofs.Opened.{join-is, opened_from_item}

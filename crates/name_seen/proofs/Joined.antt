@@ -15,15 +15,15 @@ use Rattle.name_meaning.proofs.Lateral.{plainly}
 use Rattle.name_seen_parts.specs.Seen.{first_or}
 use Rattle.name_seen_parts.specs.declared.refusal.Refusal.{Refusal}
 use Rattle.name_seen_parts.specs.declared.refusal.Refusal.TheVariants.{Break as Broken, NoMemory}
-use Rattle.name_seen_from.specs.Added.{facts_in}
-use Rattle.name_seen_from.specs.Queried.{FromSeen, FromWhole}
+use Rattle.name_seen_cores.specs.from.Added.{facts_in}
+use Rattle.name_seen_cores.specs.from.Queried.{FromSeen, FromWhole}
 use Rattle.name_seen_parts.specs.Scopes.{item_scope, scope_beside}
-use Rattle.name_seen_from.specs.Readings.{ItemAdded, ItemSeen}
-use Rattle.name_seen_from.specs.declared.facts.Facts.{Facts as Gathered}
+use Rattle.name_seen_cores.specs.from.Readings.{ItemAdded, ItemSeen}
+use Rattle.name_seen_cores.specs.declared.from.facts.Facts.{Facts as Gathered}
 use Rattle.name_seen_parts.proofs.Firsts.{all-none, first-behind, first-behind_two, first-stays, first-stays_first, first-stays_second}
 use Rattle.name_seen_parts.proofs.Scoping.{scope-beside-is}
 use Rattle.name_seen.specs.Joining.{JoinSeen}
-use Rattle.name_seen_from.proofs.Sourced.{beside-known, both-add, source-breaks}
+use Rattle.name_seen_cores.proofs.Sourced.{beside-known, both-add, source-breaks}
 use Rattle.name_meaning.specs.Cores.{optional_built}
 use Rattle.name_seen_cores.specs.Behind.{ConditionSeen, ConditionWhole}
 

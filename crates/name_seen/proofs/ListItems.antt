@@ -20,7 +20,7 @@ use Rattle.name_seen_parts.proofs.Arms.{means-is}
 use Rattle.name_seen_parts.proofs.SeenAs.{seen-as}
 use Rattle.name_seen_parts.specs.Columns.{columns_of}
 use Rattle.name_seen_parts.specs.declared.clauses.column.ShownColumn.{ShownColumn}
-use Rattle.name_seen_from.specs.declared.facts.Facts.{Facts as Gathered}
+use Rattle.name_seen_cores.specs.declared.from.facts.Facts.{Facts as Gathered}
 use Rattle.name_seen_cores.specs.Listed.{ItemSeen, ItemWhole, ListSeen, ListWhole, seen_at}
 use Rattle.name_seen_cores.proofs.Lists.{item-breaks}
 use Rattle.name_seen_cores.specs.Expressed.{ExpressionSeen, KindSeen}

@@ -22,7 +22,7 @@ use Rattle.name_seen_parts.specs.declared.operands.Operands.{Operands}
 use Rattle.name_seen_parts.specs.declared.standing.Here.{Here}
 use Rattle.name_seen_parts.specs.declared.refusal.Refusal.{Refusal}
 use Rattle.name_seen_parts.specs.Told.{Tells}
-use Rattle.name_seen_from.specs.declared.facts.Facts.{Facts as Gathered}
+use Rattle.name_seen_cores.specs.declared.from.facts.Facts.{Facts as Gathered}
 use Rattle.name_seen_cores.specs.Behind.{optional_part}
 use Rattle.name_seen_cores.specs.Expressed.{ExpressionSeen, OperandsBehind, kind_over}
 use Rattle.name_seen_cores.proofs.Behind.{behind-both, behind-nothing, meant-so, node-over}

@@ -17,9 +17,9 @@ use Rattle.name_seen_parts.specs.declared.refusal.Refusal.{Refusal}
 use Rattle.name_seen_parts.specs.declared.refusal.Refusal.TheVariants.{Break as Broken, NoMemory}
 use Rattle.name_seen_parts.specs.declared.clauses.column.ShownColumn.{ShownColumn}
 use Rattle.name_seen_parts.proofs.Firsts.{first-stays}
-use Rattle.name_seen_from.specs.Queried.{ColumnsSeen, QuerySeen}
-use Rattle.name_seen_from.specs.declared.facts.Facts.{Facts as Gathered}
-use Rattle.name_seen_from.specs.declared.shown.QueryShown.{QueryShown}
+use Rattle.name_seen_cores.specs.from.Queried.{ColumnsSeen, QuerySeen}
+use Rattle.name_seen_cores.specs.declared.from.facts.Facts.{Facts as Gathered}
+use Rattle.name_seen_cores.specs.declared.from.shown.QueryShown.{QueryShown}
 use Rattle.name_seen_cores.specs.Behind.{query_behind}
 use Rattle.name_seen_cores.proofs.Opened.{query-means}
 

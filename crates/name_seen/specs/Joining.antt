@@ -9,8 +9,8 @@ use Rattle.name_meaning.specs.declared.scope.Scope.{Scope}
 use Rattle.name_seen_parts.specs.Seen.{first_or}
 use Rattle.name_seen_parts.specs.declared.refusal.Refusal.{Refusal}
 use Rattle.name_seen_parts.specs.declared.refusal.Refusal.TheVariants.{Break as Broken, NoMemory}
-use Rattle.name_seen_from.specs.Queried.{FromWhole}
-use Rattle.name_seen_from.specs.declared.facts.Facts.{Facts as Gathered}
+use Rattle.name_seen_cores.specs.from.Queried.{FromWhole}
+use Rattle.name_seen_cores.specs.declared.from.facts.Facts.{Facts as Gathered}
 
 -- a source up to some join, in scope
 abbrev pub JoinSeen : FromMeant → List (List ℕ) → Gathered → Gathered → Scope → Result Unit Refusal → Type 0

@@ -8,7 +8,7 @@ use Rattle.name_seen_parts.specs.Seen.{no_operand}
 use Rattle.name_seen_parts.specs.declared.operands.Operands.{Operands}
 use Rattle.name_seen_parts.specs.declared.refusal.Refusal.{Refusal}
 use Rattle.name_seen_cores.specs.Expressed.{ExpressionSeen, OperandsBehind}
-use Rattle.name_seen_from.specs.declared.facts.Facts.{Facts as Gathered}
+use Rattle.name_seen_cores.specs.declared.from.facts.Facts.{Facts as Gathered}
 
 -- these operands behind whichever were the first
 abbrev pub NodeBehind : Gives → List Operand → Result Operands Refusal → Gathered → Gathered → Result (Option Kind) Refusal → Type 0

@@ -3,11 +3,10 @@ ghost use Rattle.perm_catalog.specs.Sound.{IsSound};
 ghost use Rattle.name_meaning.specs.Meanings.{query_means_at};
 ghost use Rattle.name_meaning.specs.Trees.{query_of};
 ghost use Rattle.name_seen_parts.specs.Standing.{around_of};
-ghost use Rattle.name_seen_from.specs.Queried.{QuerySeen};
+ghost use Rattle.name_seen_cores.specs.from.Queried.{QuerySeen};
 
 use crate::sets::set_seen;
-use name_seen_cores::{asks_provenance, query_over};
-use name_seen_from::{Facts, QueryShown};
+use name_seen_cores::{Facts, QueryShown, asks_provenance, query_over};
 use name_seen_parts::{Around, Refusal};
 use sql_tree::QueryTree;
 

@@ -5,13 +5,12 @@ ghost use Rattle.name_meaning.specs.Meanings.{QueryMeant};
 ghost use Rattle.name_meaning.specs.Queries.{set_chain, set_joined, may_not_ask};
 ghost use Rattle.name_meaning.specs.Trees.{set_of_tree, set_step_of};
 ghost use Rattle.name_seen_parts.specs.Standing.{around_of};
-ghost use Rattle.name_seen_from.specs.Queried.{ColumnsSeen};
-ghost use Rattle.name_seen_from.specs.declared.facts.Facts.{Facts as Gathered};
+ghost use Rattle.name_seen_cores.specs.from.Queried.{ColumnsSeen};
+ghost use Rattle.name_seen_cores.specs.declared.from.facts.Facts.{Facts as Gathered};
 
 use crate::cores::core_seen;
 use crate::queries::query_seen;
-use name_seen_cores::{add_operand, add_shown};
-use name_seen_from::Facts;
+use name_seen_cores::{Facts, add_operand, add_shown};
 use name_seen_parts::{Around, Refusal, ShownColumn};
 use perm_values::List;
 use sql_tree::{SetStep, SetTree};

@@ -6,15 +6,15 @@ ghost use Rattle.name_meaning.specs.Meanings.{query_means_at};
 ghost use Rattle.name_meaning.specs.Trees.{from_item_of, from_of, join_of, query_of, source_of};
 ghost use Rattle.name_seen_parts.specs.Named.{scopes_of};
 ghost use Rattle.name_seen_parts.specs.Standing.{around_beside, around_of};
-ghost use Rattle.name_seen_from.specs.Queried.{FromSeen, FromWhole};
-ghost use Rattle.name_seen_from.specs.declared.facts.Facts.{Facts as Gathered};
-ghost use Rattle.name_seen_from.specs.Readings.{ItemSeen, KeepsNames, ReadSeen};
+ghost use Rattle.name_seen_cores.specs.from.Queried.{FromSeen, FromWhole};
+ghost use Rattle.name_seen_cores.specs.declared.from.facts.Facts.{Facts as Gathered};
+ghost use Rattle.name_seen_cores.specs.from.Readings.{ItemSeen, KeepsNames, ReadSeen};
 ghost use Rattle.name_seen.specs.Joining.{JoinSeen};
 
 use crate::cores::condition_seen;
 use crate::queries::query_seen;
 use name_meaning::{Names, Scope};
-use name_seen_from::{Facts, Reading, put_item, read_named, read_shown};
+use name_seen_cores::{Facts, Reading, put_item, read_named, read_shown};
 use name_seen_parts::{Around, Refusal, add_items, inside, is_lateral, no_items};
 use sql_tree::{FromItem, FromSource, FromTree, JoinStep, QueryTree, ScopeMark};
 

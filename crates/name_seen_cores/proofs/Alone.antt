@@ -15,10 +15,10 @@ use Rattle.name_meaning.proofs.FactsOf.{both_facts-none}
 use Rattle.name_seen_parts.specs.Seen.{seen}
 use Rattle.name_seen_parts.specs.declared.refusal.Refusal.{Refusal}
 use Rattle.name_seen_parts.specs.declared.refusal.Refusal.TheVariants.{Break as Broken, NoMemory}
-use Rattle.name_seen_from.specs.Added.{facts_in}
+use Rattle.name_seen_cores.specs.from.Added.{facts_in}
 use Rattle.name_seen_parts.specs.Told.{Tells}
 use Rattle.name_seen_cores.specs.Expressed.{ExpressionSeen, answered}
-use Rattle.name_seen_from.specs.declared.facts.Facts.{Facts as Gathered}
+use Rattle.name_seen_cores.specs.declared.from.facts.Facts.{Facts as Gathered}
 
 pub alone : (m : Meant) (facts : Gathered) (r : Result (Option Kind) Refusal) → Tells (seen m) r
     → ((wanted : Kind) (before : Before) → (m.make wanted before).subs ≡ []) → ExpressionSeen m facts facts r

@@ -20,9 +20,9 @@ use Rattle.name_seen_parts.specs.declared.refusal.Refusal.{Refusal}
 use Rattle.name_seen_parts.specs.declared.refusal.Refusal.TheVariants.{Break as Broken, NoMemory}
 use Rattle.name_seen_parts.proofs.Arms.{operand-is}
 use Rattle.name_seen_parts.proofs.OperandLists.{node-seen}
-use Rattle.name_seen_from.specs.Added.{facts_in}
+use Rattle.name_seen_cores.specs.from.Added.{facts_in}
 use Rattle.name_seen_cores.specs.Expressed.{ExpressionSeen, OperandsSeen, OperandsBehind, answered, kind_over, operands_with}
-use Rattle.name_seen_from.specs.declared.facts.Facts.{Facts as Gathered}
+use Rattle.name_seen_cores.specs.declared.from.facts.Facts.{Facts as Gathered}
 use Rattle.name_seen_cores.proofs.Adding.{seen-both, adds-both}
 
 -- ---- lists of operands

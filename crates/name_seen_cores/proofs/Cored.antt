@@ -22,9 +22,9 @@ use Rattle.name_meaning.proofs.FactsOf.{both_facts-assoc, both_facts-none, facts
 use Rattle.name_seen_parts.specs.Seen.{first_or}
 use Rattle.name_seen_parts.specs.declared.clauses.column.ShownColumn.{ShownColumn}
 use Rattle.name_seen_parts.proofs.Firsts.{all-none, both-none, first-behind, first-behind_two, first-stays, first-stays_first, first-stays_second, none-broken}
-use Rattle.name_seen_from.specs.Added.{facts_in}
-use Rattle.name_seen_from.specs.Queried.{ColumnsWhole}
-use Rattle.name_seen_from.specs.declared.facts.Facts.{Facts as Gathered}
+use Rattle.name_seen_cores.specs.from.Added.{facts_in}
+use Rattle.name_seen_cores.specs.from.Queried.{ColumnsWhole}
+use Rattle.name_seen_cores.specs.declared.from.facts.Facts.{Facts as Gathered}
 use Rattle.name_seen_cores.specs.Behind.{ConditionWhole}
 use Rattle.name_seen_cores.specs.Listed.{ListWhole, seen_at}
 

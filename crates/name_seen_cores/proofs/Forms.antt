@@ -18,9 +18,9 @@ use Rattle.name_meaning.proofs.FactsOf.{both_facts-none}
 use Rattle.name_seen_parts.specs.Seen.{with_operand}
 use Rattle.name_seen_parts.specs.declared.operands.Operands.{Operands}
 use Rattle.name_seen_parts.specs.declared.refusal.Refusal.{Refusal}
-use Rattle.name_seen_from.specs.Added.{facts_in}
+use Rattle.name_seen_cores.specs.from.Added.{facts_in}
 use Rattle.name_seen_cores.specs.Expressed.{OperandsBehind}
-use Rattle.name_seen_from.specs.declared.facts.Facts.{Facts as Gathered}
+use Rattle.name_seen_cores.specs.declared.from.facts.Facts.{Facts as Gathered}
 use Rattle.name_seen_cores.proofs.Behind.{behind-both}
 use Rattle.contribution.proofs.Added.{one_more}
 

@@ -28,10 +28,10 @@ use Rattle.name_seen_parts.specs.declared.refusal.Refusal.TheVariants.{Break as 
 use Rattle.name_seen_parts.specs.Columns.{column_of, columns_of}
 use Rattle.name_seen_parts.specs.declared.clauses.column.ShownColumn.{ShownColumn}
 use Rattle.name_seen_parts.proofs.Firsts.{all-none, both-none, first-behind, first-behind_two, first-stays_first, first-stays_second, none-broken}
-use Rattle.name_seen_from.specs.Added.{facts_in}
-use Rattle.name_seen_from.specs.Queried.{ColumnsSeen, ColumnsWhole, QueryWhole}
-use Rattle.name_seen_from.specs.declared.facts.Facts.{Facts as Gathered}
-use Rattle.name_seen_from.specs.declared.shown.QueryShown.{QueryShown}
+use Rattle.name_seen_cores.specs.from.Added.{facts_in}
+use Rattle.name_seen_cores.specs.from.Queried.{ColumnsSeen, ColumnsWhole, QueryWhole}
+use Rattle.name_seen_cores.specs.declared.from.facts.Facts.{Facts as Gathered}
+use Rattle.name_seen_cores.specs.declared.from.shown.QueryShown.{QueryShown}
 use Rattle.name_seen_cores.specs.Behind.{OperandUnited, PlacesBehind, query_behind}
 use Rattle.name_meaning.proofs.KindsOf.{columns-joined, known-proved}
 

@@ -18,14 +18,14 @@ use Rattle.name_seen_parts.specs.Seen.{IsSeenAs, first_or, seen}
 use Rattle.name_seen_parts.specs.declared.refusal.Refusal.{Refusal}
 use Rattle.name_seen_parts.specs.declared.refusal.Refusal.TheVariants.{Break as Broken, NoMemory}
 use Rattle.name_seen_parts.proofs.SeenAs.{seen-as}
-use Rattle.name_seen_from.specs.Added.{facts_in}
+use Rattle.name_seen_cores.specs.from.Added.{facts_in}
 use Rattle.name_seen_parts.specs.Told.{Tells}
 use Rattle.name_seen_cores.specs.Expressed.{ExpressionSeen}
 use Rattle.name_seen_cores.specs.Inner.{InnerIs, InnerLooked, InnerSeen, exists_over, scalar_over, tested_by, tested_over, first_shown}
 use Rattle.name_seen_parts.specs.Columns.{columns_of}
-use Rattle.name_seen_from.specs.Queried.{QuerySeen, QueryWhole}
-use Rattle.name_seen_from.specs.declared.facts.Facts.{Facts as Gathered}
-use Rattle.name_seen_from.specs.declared.shown.QueryShown.{QueryShown}
+use Rattle.name_seen_cores.specs.from.Queried.{QuerySeen, QueryWhole}
+use Rattle.name_seen_cores.specs.declared.from.facts.Facts.{Facts as Gathered}
+use Rattle.name_seen_cores.specs.declared.from.shown.QueryShown.{QueryShown}
 use Rattle.name_seen_parts.specs.declared.clauses.column.ShownColumn.{ShownColumn}
 use Rattle.name_seen_cores.specs.declared.sublinks.InnerColumns.{InnerColumns}
 use Rattle.name_seen_cores.proofs.Alone.{alone}

@@ -11,8 +11,8 @@ use Rattle.name_seen_parts.specs.Seen.{seen, with_operand, operands_seen, whole_
 use Rattle.name_seen_parts.specs.declared.operands.Operands.{Operands}
 use Rattle.name_seen_parts.specs.declared.refusal.Refusal.{Refusal}
 use Rattle.name_seen_parts.specs.declared.refusal.Refusal.TheVariants.{Break as Broken, NoMemory}
-use Rattle.name_seen_from.specs.Added.{facts_in}
-use Rattle.name_seen_from.specs.declared.facts.Facts.{Facts as Gathered}
+use Rattle.name_seen_cores.specs.from.Added.{facts_in}
+use Rattle.name_seen_cores.specs.declared.from.facts.Facts.{Facts as Gathered}
 
 -- ---- an expression
 

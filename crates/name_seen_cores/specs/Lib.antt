@@ -3,3 +3,4 @@ pub mod Expressed
 pub mod Inner
 pub mod Listed
 pub mod Shown
+pub mod from

@@ -10,8 +10,8 @@ use Rattle.name_seen_parts.specs.declared.refusal.Refusal.{Refusal}
 use Rattle.name_seen_parts.specs.declared.refusal.Refusal.TheVariants.{Break as Broken, NoMemory}
 use Rattle.name_seen_parts.specs.Columns.{columns_of}
 use Rattle.name_seen_parts.specs.declared.clauses.column.ShownColumn.{ShownColumn}
-use Rattle.name_seen_from.specs.Added.{facts_in}
-use Rattle.name_seen_from.specs.declared.facts.Facts.{Facts as Gathered}
+use Rattle.name_seen_cores.specs.from.Added.{facts_in}
+use Rattle.name_seen_cores.specs.declared.from.facts.Facts.{Facts as Gathered}
 
 -- one more item: its columns come behind those so far, and its facts behind theirs
 pub record ItemWhole (m : SelectMeant) (columns wider : List ShownColumn) (old new : Gathered) : Type 0 where

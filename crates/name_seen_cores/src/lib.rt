@@ -3,6 +3,7 @@
 #![tactic(auto)]
 
 mod expressions;
+mod from;
 mod grouping;
 mod listing;
 mod names;
@@ -15,6 +16,7 @@ mod sublinks;
 pub use expressions::{
     aggregated, answered, chain_gives, column, first_need, in_argument, kind_over, operands_with,
 };
+pub use from::{Facts, QueryShown, Reading, put_item, read_named, read_shown};
 pub use grouping::{behind_groups, grouped_scope, is_grouped, places_of_groups};
 pub use listing::{add_star, add_table_star, add_value};
 pub use queries::{asks_provenance, core_word, query_over};

@@ -5,7 +5,7 @@ ghost use Rattle.name_meaning.specs.Trees.{part_of};
 ghost use Rattle.perm_catalog.specs.Contents.{Contents};
 ghost use Rattle.name_seen_parts.specs.Columns.{columns_of};
 ghost use Rattle.name_seen_parts.specs.Stars.{is_of};
-ghost use Rattle.name_seen_from.specs.declared.facts.Facts.{Facts as Gathered};
+ghost use Rattle.name_seen_cores.specs.declared.from.facts.Facts.{Facts as Gathered};
 ghost use Rattle.name_seen_cores.specs.Listed.{ItemSeen};
 ghost use Rattle.name_seen_cores.specs.Shown.{columns_shown, shown};
 

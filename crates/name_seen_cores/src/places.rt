@@ -10,7 +10,7 @@ ghost use Rattle.name_seen_cores.specs.Behind.{PlacesBehind};
 
 use bag_algebra::Place;
 use contribution::{PlaceList, prov_names};
-use name_seen_from::{Facts, QueryShown};
+use crate::from::{Facts, QueryShown};
 use name_seen_parts::ShownColumn;
 use perm_values::{Chars, Copyable, Kind, List, NoMemory};
 use std::alloc::Global;

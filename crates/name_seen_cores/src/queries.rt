@@ -6,14 +6,14 @@ ghost use Rattle.name_meaning.specs.Trees.{set_of_tree};
 ghost use Rattle.name_meaning.specs.laws.Known.{HasItsKinds};
 ghost use Rattle.name_seen_parts.specs.Standing.{around_of};
 ghost use Rattle.perm_catalog.specs.Contents.{Contents};
-ghost use Rattle.name_seen_from.specs.Added.{facts_in};
-ghost use Rattle.name_seen_from.specs.Queried.{ColumnsWhole, QuerySeen};
-ghost use Rattle.name_seen_from.specs.declared.facts.Facts.{Facts as Gathered};
+ghost use Rattle.name_seen_cores.specs.from.Added.{facts_in};
+ghost use Rattle.name_seen_cores.specs.from.Queried.{ColumnsWhole, QuerySeen};
+ghost use Rattle.name_seen_cores.specs.declared.from.facts.Facts.{Facts as Gathered};
 ghost use Rattle.name_meaning.specs.laws.Facts.{no_facts};
 ghost use Rattle.name_seen_cores.specs.Behind.{query_behind};
 
 use crate::places::with_places;
-use name_seen_from::{Facts, QueryShown};
+use crate::from::{Facts, QueryShown};
 use name_seen_parts::{Around, Refusal, ShownColumn, keys_break};
 use perm_values::List;
 use sql_tree::{OrderTree, SetTree};

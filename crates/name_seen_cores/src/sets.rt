@@ -2,11 +2,11 @@
 ghost use Rattle.std.specs.Prelude.{◌≡◌};
 ghost use Rattle.name_meaning.specs.Meanings.{QueryMeant};
 ghost use Rattle.name_meaning.specs.Queries.{SetStepPart, set_joined};
-ghost use Rattle.name_seen_from.specs.Queried.{ColumnsSeen, ColumnsWhole, QueryWhole};
+ghost use Rattle.name_seen_cores.specs.from.Queried.{ColumnsSeen, ColumnsWhole, QueryWhole};
 ghost use Rattle.name_seen_cores.specs.Behind.{OperandUnited};
-ghost use Rattle.name_seen_from.specs.declared.facts.Facts.{Facts as Gathered};
+ghost use Rattle.name_seen_cores.specs.declared.from.facts.Facts.{Facts as Gathered};
 
-use name_seen_from::{Facts, QueryShown};
+use crate::from::{Facts, QueryShown};
 use name_seen_parts::{Refusal, ShownColumn, operand_break, unite};
 use perm_values::List;
 

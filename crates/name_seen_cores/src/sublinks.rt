@@ -5,10 +5,10 @@ ghost use Rattle.name_meaning.specs.Sublinks.{in_tested};
 ghost use Rattle.name_meaning.specs.declared.scope.Scope.{Scope};
 ghost use Rattle.name_seen_parts.specs.Standing.{standing_in};
 ghost use Rattle.name_seen_cores.specs.Inner.{InnerSeen, exists_over, first_shown, scalar_over, tested_over, tested_by};
-ghost use Rattle.name_seen_from.specs.Queried.{QueryWhole};
+ghost use Rattle.name_seen_cores.specs.from.Queried.{QueryWhole};
 
 use name_meaning::{Break, Rule};
-use name_seen_from::{Facts, QueryShown};
+use crate::from::{Facts, QueryShown};
 use name_seen_parts::{Refusal, ShownColumn, Standing, unites};
 use perm_values::Kind;
 

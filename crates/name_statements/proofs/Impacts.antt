@@ -22,7 +22,7 @@ use Rattle.name_seen_parts.proofs.Firsts.{none-broken}
 use Rattle.name_seen_parts.specs.Seen.{first_or}
 use Rattle.name_seen_parts.specs.declared.refusal.Refusal.{Refusal}
 use Rattle.name_seen_parts.specs.declared.refusal.Refusal.TheVariants.{Break as Broken, NoMemory}
-use Rattle.name_seen_from.specs.Queried.{QuerySeen}
+use Rattle.name_seen_cores.specs.from.Queried.{QuerySeen}
 use Rattle.name_statements.specs.Resolves.{AskedSeen, InsideSeen, IsAsked, IsMonotoneMade, MonotoneSeen, ResolvesBody, ResolvesBy, WholeSeen, asked_breaks, body_breaks}
 use Rattle.name_statements.specs.declared.queries.Whole.{Whole}
 use Rattle.name_statements.proofs.Bodies.{limited_by, limits-behind}

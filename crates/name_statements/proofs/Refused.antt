@@ -18,8 +18,8 @@ use Rattle.name_meaning.specs.declared.answer.Resolved.{Resolved}
 use Rattle.name_seen_parts.specs.Seen.{first_or}
 use Rattle.name_seen_parts.specs.declared.refusal.Refusal.{Refusal}
 use Rattle.name_seen_parts.specs.declared.refusal.Refusal.TheVariants.{Break as Broken, NoMemory}
-use Rattle.name_seen_from.specs.Queried.{QuerySeen, QueryWhole}
-use Rattle.name_seen_from.specs.declared.shown.QueryShown.{QueryShown}
+use Rattle.name_seen_cores.specs.from.Queried.{QuerySeen, QueryWhole}
+use Rattle.name_seen_cores.specs.declared.from.shown.QueryShown.{QueryShown}
 use Rattle.name_statements.specs.Resolves.{IsWhole, Resolves, ResolvesBody, ResolvesBy, WholeSeen}
 use Rattle.name_statements.specs.declared.queries.Whole.{Whole}
 use Rattle.name_statements.proofs.Bodies.{limited_by, limits-behind, names-first}

@@ -22,8 +22,8 @@ use Rattle.perm_catalog.specs.Contents.{Contents}
 use Rattle.perm_catalog.specs.declared.column.Column.{Column}
 use Rattle.name_inside.specs.Held.{inside_in}
 use Rattle.name_inside.specs.declared.gathered.Gathered.{Gathered}
-use Rattle.name_seen_from.specs.Queried.{QueryWhole}
-use Rattle.name_seen_from.specs.declared.shown.QueryShown.{QueryShown}
+use Rattle.name_seen_cores.specs.from.Queried.{QueryWhole}
+use Rattle.name_seen_cores.specs.declared.from.shown.QueryShown.{QueryShown}
 use Rattle.sql_tree.specs.declared.query.OrderTree.{OrderTree}
 use Rattle.sql_tree.specs.declared.query.QueryTree.{QueryTree}
 use Rattle.name_seen_parts.specs.declared.refusal.Refusal.{Refusal}

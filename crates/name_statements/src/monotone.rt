@@ -10,7 +10,7 @@ ghost use Rattle.name_meaning.specs.Queries.{key_of};
 ghost use Rattle.name_meaning.specs.Trees.{query_of};
 ghost use Rattle.name_meaning.specs.declared.rule.Rule.TheVariants as rule;
 ghost use Rattle.name_seen_parts.specs.declared.refusal.Refusal.TheVariants.{Break as Broken};
-ghost use Rattle.name_seen_from.specs.Queried.{QueryWhole};
+ghost use Rattle.name_seen_cores.specs.from.Queried.{QueryWhole};
 ghost use Rattle.name_statements.specs.Resolves.{AskedSeen, InsideSeen, IsMonotoneMade, MonotoneSeen};
 
 use crate::queries::Whole;
@@ -18,7 +18,7 @@ use crate::whole_queries::whole_with;
 use bag_algebra::Query;
 use name_inside::Gathered;
 use name_meaning::{Break, Rule};
-use name_seen_from::QueryShown;
+use name_seen_cores::QueryShown;
 use name_seen_parts::{Around, Refusal};
 use perm_values::{Key, List, NoMemory};
 use query_spines::{is_monotone_along, let_go_along};

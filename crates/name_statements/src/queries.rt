@@ -16,7 +16,7 @@ use crate::seen::{boolean_break, repeats_break, table_limit};
 use bag_algebra::Answer;
 use name_inside::{Gathered, all_noted, query_inside};
 use name_meaning::Break;
-use name_seen_from::QueryShown;
+use name_seen_cores::QueryShown;
 use name_seen_parts::{Around, Scopes, ShownColumn};
 use perm_catalog::{Catalog, Column, ViewEntry};
 use perm_values::{Chars, List, NoMemory};

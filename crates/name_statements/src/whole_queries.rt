@@ -9,7 +9,7 @@ ghost use Rattle.name_meaning.specs.Queries.{key_of};
 ghost use Rattle.name_meaning.specs.Statements.{stored_columns};
 ghost use Rattle.name_meaning.specs.Trees.{query_of};
 ghost use Rattle.perm_catalog.specs.Sound.{IsSound};
-ghost use Rattle.name_seen_from.specs.Queried.{QueryWhole};
+ghost use Rattle.name_seen_cores.specs.from.Queried.{QueryWhole};
 ghost use Rattle.name_inside.specs.heights.High.{QueryHigh};
 ghost use Rattle.name_statements.specs.Resolves.{InsideSeen, IsInside, WholeSeen, WithinSeen};
 
@@ -19,7 +19,7 @@ use bag_algebra::{Answer, Query};
 use name_inside::{Gathered, first_wide, query_height};
 use name_made_parts::column_names;
 use name_meaning::{Break, Rule};
-use name_seen_from::QueryShown;
+use name_seen_cores::QueryShown;
 use name_seen_parts::{Around, Refusal, ShownColumn, settled_columns};
 use perm_catalog::Column;
 use perm_values::{Chars, Key, List, NoMemory};

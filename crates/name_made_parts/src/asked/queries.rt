@@ -14,7 +14,7 @@ ghost use Rattle.name_made_parts.specs.AskedColumns.{Settles};
 use crate::keys::keys_of;
 use name_meaning::settled;
 use name_seen::set_seen;
-use name_seen_from::Facts;
+use name_seen_cores::Facts;
 use name_seen_parts::{Around, Refusal, ShownColumn};
 use perm_values::{Key, Kind, List, NoMemory};
 use sql_tree::{QueryTree, SetTree};

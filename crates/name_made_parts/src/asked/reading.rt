@@ -10,7 +10,7 @@ ghost use Rattle.name_made_parts.specs.Sources.{Shows};
 
 use crate::shown::{ShownNames, column_names};
 use name_seen::query_seen;
-use name_seen_from::QueryShown;
+use name_seen_cores::QueryShown;
 use name_seen_parts::{Around, Refusal};
 use perm_values::{List, NoMemory};
 use sql_tree::QueryTree;

@@ -49,14 +49,14 @@ use Rattle.name_seen_parts.specs.Seen.{first_or}
 use Rattle.name_seen_parts.specs.Standing.{around_of}
 use Rattle.name_seen_parts.specs.Told.{Tells}
 use Rattle.name_seen_parts.specs.declared.refusal.Refusal.TheVariants.{Break as Broken}
-use Rattle.name_seen_from.specs.Queried.{ColumnsSeen, FromSeen, FromWhole, QuerySeen}
+use Rattle.name_seen_cores.specs.from.Queried.{ColumnsSeen, FromSeen, FromWhole, QuerySeen}
 use Rattle.name_seen_cores.specs.Behind.{ConditionSeen, core_behind, optional_part}
 use Rattle.name_seen_cores.specs.Listed.{ItemSeen as ItemIsSeen, ListSeen, ListWhole, seen_at}
 use Rattle.name_seen_cores.proofs.Lists.{list-more, nothing-listed}
 use Rattle.name_seen_cores.proofs.Opened.{chain-means, paren-means, set-is, step-at, step-operand as operand-of}
 use Rattle.name_seen_cores.proofs.Queried.{chain-behind, chain-refused}
 use Rattle.name_meaning.specs.declared.scope.Scope.{Scope}
-use Rattle.name_seen_from.specs.Readings.{ItemAdded, ItemSeen, ReadSeen}
+use Rattle.name_seen_cores.specs.from.Readings.{ItemAdded, ItemSeen, ReadSeen}
 use Rattle.name_seen.proofs.Conditions.{some-condition}
 use Rattle.name_seen.proofs.CoreSteps.{core-answered, from-answered, from-refused, groups-refused, has-from, having-refused, where-refused, word-refused}
 use Rattle.name_seen.proofs.FromTrees.{from-means, inner-read, item-refused, item-means, joined-condition, joined-item, joined-word, lateral-means, named-read, read-refused}
@@ -64,7 +64,7 @@ use Rattle.name_seen.proofs.Joined.{first-refused, first-whole, join-behind, joi
 use Rattle.name_meaning.proofs.Lateral.{join-lateral, join-plain, lateral_item, plain_item}
 use Rattle.sql_tree.specs.Regular.{is_lateral}
 use Rattle.name_seen.specs.Joining.{JoinSeen}
-use Rattle.name_seen_from.proofs.Sourced.{source-behind}
+use Rattle.name_seen_cores.proofs.Sourced.{source-behind}
 use Rattle.name_seen.proofs.Nodes.{aggregate-alone, aggregate-means, argument-told, case-means, node-behind, none-first, rest-so, steps-so}
 use Rattle.name_seen.proofs.ListItems.{list-refused, star-seen, table_star-seen, value-refused, value-seen}
 use Rattle.name_seen.proofs.QuerySteps.{body_meant, kinds-known, paren-refused, query-answered, query-refused}

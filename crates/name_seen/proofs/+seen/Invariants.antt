@@ -12,8 +12,8 @@ use Rattle.name_meaning.specs.Queries.{set_chain}
 use Rattle.name_meaning.specs.Trees.{from_item_of, from_of, item_of, join_of, set_step_of}
 use Rattle.name_seen_parts.specs.Named.{scopes_of}
 use Rattle.name_seen_parts.specs.Standing.{around_of}
-use Rattle.name_seen_from.specs.Queried.{ColumnsSeen, FromWhole}
-use Rattle.name_seen_from.specs.declared.facts.Facts.{Facts}
+use Rattle.name_seen_cores.specs.from.Queried.{ColumnsSeen, FromWhole}
+use Rattle.name_seen_cores.specs.declared.from.facts.Facts.{Facts}
 use Rattle.name_seen_cores.specs.Listed.{ListWhole, seen_at}
 use Rattle.name_seen.proofs.+seen.Given as goal
 

@@ -7,7 +7,7 @@ use Rattle.name_meaning.specs.Meanings.{query_means_at}
 use Rattle.name_meaning.specs.Statements as words
 use Rattle.name_meaning.specs.Trees.{query_of}
 use Rattle.name_meaning.specs.declared.answer.Resolved.TheVariants as r
-use Rattle.name_seen_from.specs.Queried.{QueryWhole}
+use Rattle.name_seen_cores.specs.from.Queried.{QueryWhole}
 use Rattle.sql_tree.specs.declared.statement.StatementBody.TheVariants as st
 use Rattle.name_statements.specs.Resolves.{ResolvesBy, stored_breaks}
 use Rattle.name_statements.specs.declared.queries.Whole.{Whole}

@@ -6,7 +6,7 @@ use Rattle.name_meaning.specs.Meanings.{broken_if, query_means_at}
 use Rattle.name_meaning.specs.Statements as words
 use Rattle.name_meaning.specs.Trees.{query_of}
 use Rattle.name_meaning.specs.declared.answer.Resolved.TheVariants as r
-use Rattle.name_seen_from.specs.Queried.{QueryWhole}
+use Rattle.name_seen_cores.specs.from.Queried.{QueryWhole}
 use Rattle.sql_tree.specs.declared.statement.StatementBody.TheVariants as st
 use Rattle.name_statements.specs.Resolves.{ResolvesBy}
 use Rattle.name_statements.proofs.Queried.{view-limited, view-made, view-repeats, view-seen}

@@ -2,7 +2,7 @@ use Rattle.std.specs.Prelude.{Err}
 use Rattle.std.proofs.Common.{subst}
 use Rattle.name_meaning.specs.Froms.{read_of}
 use Rattle.name_meaning.specs.Trees.{source_of}
-use Rattle.name_seen_from.specs.Readings.{ReadSeen}
+use Rattle.name_seen_cores.specs.from.Readings.{ReadSeen}
 use Rattle.name_seen_parts.specs.Standing.{around_of}
 use Rattle.name_seen_parts.specs.declared.refusal.Refusal.{Refusal}
 use Rattle.name_inside.proofs.ReadItems.{read-broken, read-known}

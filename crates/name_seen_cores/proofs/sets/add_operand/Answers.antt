@@ -1,5 +1,5 @@
 use Rattle.std.proofs.Common.{subst}
-use Rattle.name_seen_from.specs.Queried.{ColumnsSeen}
+use Rattle.name_seen_cores.specs.from.Queried.{ColumnsSeen}
 use Rattle.name_seen_cores.proofs.Queried.{joined-seen, joined-refused}
 use Rattle.name_seen_cores.proofs.sets.add_operand.Goals as goal
 

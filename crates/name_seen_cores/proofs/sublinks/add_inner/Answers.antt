@@ -1,7 +1,7 @@
 use Rattle.std.specs.Prelude.{List, length, nat_eq}
 use Rattle.std.proofs.Common.{ap, ◌∙◌}
 use Rattle.name_meaning.specs.laws.Facts.{Facts, both_facts}
-use Rattle.name_seen_from.specs.Added.{facts_in}
+use Rattle.name_seen_cores.specs.from.Added.{facts_in}
 use Rattle.name_seen_cores.specs.Inner.{first_shown}
 use Rattle.name_seen_parts.specs.declared.clauses.column.ShownColumn.{ShownColumn}
 use Rattle.name_seen_cores.proofs.Sublinked.{inner-is}
