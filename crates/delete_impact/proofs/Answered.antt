@@ -30,7 +30,7 @@ use Rattle.contribution.proofs.Agreement.{joined_lists}
 use Rattle.contribution.proofs.SetsOfRows.{Below, below_good}
 use Rattle.contribution.proofs.SharedMembers.{Within}
 use Rattle.contribution.specs.Conjunctions.{always}
-use Rattle.monotone_queries.specs.Monotone.{is_monotone}
+use Rattle.query_facts.specs.monotone.Monotone.{is_monotone}
 use Rattle.query_laws.proofs.Once.{holds_once-once}
 use Rattle.query_laws.specs.Holding.{HoldsOnce}
 use Rattle.delete_impact.specs.vanishing.Doomed.{doomed_on, is_doomed, after_deletion, places_over}
@@ -44,7 +44,7 @@ use Rattle.delete_impact.specs.reduced.Hiding.{hides_none}
 use Rattle.delete_impact.specs.reduced.Reduced.{behind, missing, missing_part, over_rows, reduced}
 use Rattle.delete_impact.specs.reduced.Splitting.{splits}
 use Rattle.delete_impact.specs.Impact.{IsImpact}
-use Rattle.monotone_queries.specs.Conditions.{ConditionFits}
+use Rattle.query_facts.specs.monotone.Conditions.{ConditionFits}
 use Rattle.delete_impact.proofs.BothParts.{both-bad, parts-above}
 use Rattle.delete_impact.proofs.Conditions.{each-item, emptied}
 use Rattle.delete_impact.proofs.FewerFaults.{bad-above, fewer-below, fewer-part}

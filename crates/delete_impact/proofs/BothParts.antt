@@ -27,8 +27,8 @@ use Rattle.contribution.proofs.SetMembers.{in-union}
 use Rattle.contribution.proofs.SetsOfRows.{Below, below_good, below_worse, below-trans, below-left, below-right, below-joined, below-gather, gather-below, included-refl, included-trans, included-union, included-left, included-right, SetAgree, set_bad, set_agree-refl, set_agree-below, set_agree-of_below}
 use Rattle.contribution.proofs.SharedMembers.{Within}
 use Rattle.contribution.proofs.TablesRead.{denote-equal_tables}
-use Rattle.monotone_queries.specs.Monotone.{is_monotone, is_relation, is_whole_table}
-use Rattle.monotone_queries.proofs.Nodes.{whole_table-is}
+use Rattle.query_facts.specs.monotone.Monotone.{is_monotone, is_relation, is_whole_table}
+use Rattle.query_facts.proofs.Nodes.{whole_table-is}
 use Rattle.delete_impact.proofs.Below.{gather-fewer, each-fewer, pairs-fewer, mapped-fewer, unpadded-fewer}
 use Rattle.delete_impact.specs.reduced.Hiding.{hides_none}
 use Rattle.delete_impact.specs.reduced.Reads.{first_kinds}

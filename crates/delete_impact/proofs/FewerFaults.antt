@@ -24,8 +24,8 @@ use Rattle.contribution.proofs.Agreement.{union-comm}
 use Rattle.contribution.proofs.NodeQueries.{meaning-projected, meaning-chosen, meaning-pairs}
 use Rattle.contribution.proofs.SetsOfRows.{Below, below_good, below_bad, below_worse, included-trans, included-union, included-left, included-right}
 use Rattle.contribution.proofs.SharedMembers.{Within}
-use Rattle.monotone_queries.specs.Monotone.{is_monotone, is_relation, is_whole_table}
-use Rattle.monotone_queries.proofs.Nodes.{whole_table-is}
+use Rattle.query_facts.specs.monotone.Monotone.{is_monotone, is_relation, is_whole_table}
+use Rattle.query_facts.proofs.Nodes.{whole_table-is}
 use Rattle.delete_impact.proofs.Below.{gather-fewer, each-fewer, pairs-fewer, mapped-fewer, once-fewer, union-fewer, unpadded-fewer}
 use Rattle.delete_impact.specs.reduced.Hiding.{hides_none}
 use Rattle.delete_impact.proofs.ReducedRows.{none-denoted, pairs, filter-alone, project-alone, join-alone, part_of}

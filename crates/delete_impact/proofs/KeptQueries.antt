@@ -25,9 +25,9 @@ use Rattle.bag_algebra.specs.declared.query.Query.{Query, Row_of-Sublink, more_o
 use Rattle.bag_algebra.specs.declared.query.Query.TheVariants.{Table, Single}
 use Rattle.contribution.proofs.RowKinds.{row_fits-length}
 use Rattle.contribution.proofs.SetsOfRows.{below_good}
-use Rattle.monotone_queries.specs.Monotone.{are_all_places, is_monotone, is_relation, is_whole_table}
-use Rattle.monotone_queries.proofs.AllPlaces.{all_places-decides}
-use Rattle.monotone_queries.proofs.Nodes.{whole_table-is}
+use Rattle.query_facts.specs.monotone.Monotone.{are_all_places, is_monotone, is_relation, is_whole_table}
+use Rattle.query_facts.proofs.AllPlaces.{all_places-decides}
+use Rattle.query_facts.proofs.Nodes.{whole_table-is}
 use Rattle.delete_impact.specs.vanishing.Doomed.{is_doomed, after_deletion, is_over, places_over, sub_places_over, has_doomed}
 use Rattle.delete_impact.proofs.KeptNodes.{Kept, Sparing, made_lists, inner_lists, kept_good, kept_bad, kept-node, kept-filter, kept-project, kept-join, kept-union, kept-distinct}
 use Rattle.delete_impact.proofs.Spared.{empty-spared, length-empty, as_many_places}

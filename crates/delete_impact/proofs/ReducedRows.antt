@@ -24,8 +24,8 @@ use Rattle.bag_algebra.specs.declared.query.Label.{Label}
 use Rattle.bag_algebra.specs.declared.query.Query.{Query, Row_of-Sublink, more_of-Sublink, end_of-Sublink}
 use Rattle.bag_algebra.specs.declared.query.Query.TheVariants.{Table, Single}
 use Rattle.contribution.proofs.NodeQueries.{meaning-chosen}
-use Rattle.monotone_queries.specs.Monotone.{is_monotone, is_relation, is_whole_table}
-use Rattle.monotone_queries.proofs.Nodes.{whole_table-is}
+use Rattle.query_facts.specs.monotone.Monotone.{is_monotone, is_relation, is_whole_table}
+use Rattle.query_facts.proofs.Nodes.{whole_table-is}
 use Rattle.delete_impact.specs.vanishing.Doomed.{is_doomed, after_deletion}
 use Rattle.query_laws.specs.replaced.OverQueries.{over_queries, sub_over_queries}
 use Rattle.delete_impact.specs.reduced.Reduced.{not_true, rows_of, over_rows, reduced}

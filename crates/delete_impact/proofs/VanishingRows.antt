@@ -11,7 +11,7 @@ use Rattle.bag_algebra.specs.Means.{Witness}
 use Rattle.bag_algebra.specs.Outcome.{Good}
 use Rattle.bag_algebra.specs.declared.expr.Expr.{Expr}
 use Rattle.bag_algebra.specs.declared.query.Query.{Query}
-use Rattle.monotone_queries.specs.Monotone.{is_monotone}
+use Rattle.query_facts.specs.monotone.Monotone.{is_monotone}
 use Rattle.delete_impact.specs.vanishing.Doomed.{after_deletion, places_over, has_doomed}
 use Rattle.delete_impact.specs.vanishing.Vanishing.{Vanishes}
 use Rattle.delete_impact.proofs.KeptQueries.{KeptRows, kept-query, kept-rows, all-at}

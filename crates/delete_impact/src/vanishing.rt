@@ -10,7 +10,7 @@ ghost use Rattle.bag_algebra.specs.declared.expr.Expr.{Expr};
 ghost use Rattle.bag_algebra.specs.declared.query.Query.{Query};
 ghost use Rattle.delete_impact.specs.vanishing.Doomed.{after_deletion, has_doomed, places_over};
 ghost use Rattle.delete_impact.specs.vanishing.Vanishing.{Vanishes};
-ghost use Rattle.monotone_queries.specs.Monotone.{is_monotone};
+ghost use Rattle.query_facts.specs.monotone.Monotone.{is_monotone};
 
 /// Where a monotone query is good on a database that fits it, a row vanishes by a deletion exactly where it is in the answer and
 /// each of its witness lists has a doomed row of the table, at a place whose source is over that table (after Glavic and

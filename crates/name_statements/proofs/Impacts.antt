@@ -3,7 +3,7 @@ use Rattle.std.specs.Prelude.{◌≡◌, ℕ, true, Bool, not, List, [], ◌++�
 use Rattle.std.proofs.Common.{ap, sym, subst, ◌∙◌}
 use Rattle.bag_algebra.specs.declared.expr.Expr.{Expr}
 use Rattle.bag_algebra.specs.declared.query.Query.{Query}
-use Rattle.monotone_queries.specs.Monotone.{is_monotone}
+use Rattle.query_facts.specs.monotone.Monotone.{is_monotone}
 use Rattle.perm_catalog.specs.Contents.{Contents}
 use Rattle.sql_tree.specs.declared.expression.ExprTree.{ExprTree}
 use Rattle.sql_tree.specs.declared.name.Name.{Name}

@@ -6,7 +6,7 @@ use Rattle.bag_algebra.specs.declared.query.Query.{Query}
 use Rattle.name_made_nodes.specs.Makes.{MakesQuery}
 use Rattle.name_inside.specs.Held.{inside_in}
 use Rattle.name_inside.specs.declared.gathered.Gathered.{Gathered}
-use Rattle.monotone_queries.specs.Monotone.{is_monotone}
+use Rattle.query_facts.specs.monotone.Monotone.{is_monotone}
 use Rattle.perm_catalog.specs.declared.entries.TableEntry.{TableEntry}
 use Rattle.sql_tree.specs.declared.expression.ExprTree.{ExprTree}
 use Rattle.sql_tree.specs.declared.name.Name.{Name}

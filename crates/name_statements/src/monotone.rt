@@ -1,6 +1,6 @@
 //! The query of IMPACT: that it is monotone, and the whole query within the limits.
 ghost use Rattle.std.specs.Prelude.{◌≡◌, [], IfErr, IfOk, IsErrAnd, Ok, map, not, true};
-ghost use Rattle.monotone_queries.specs.Monotone as queries;
+ghost use Rattle.query_facts.specs.monotone.Monotone as queries;
 ghost use Rattle.name_seen_parts.specs.Columns.{columns_of};
 ghost use Rattle.name_seen_parts.specs.Seen.{first_or};
 ghost use Rattle.name_seen_parts.specs.Standing.{around_of};
@@ -21,7 +21,7 @@ use name_meaning::{Break, Rule};
 use name_seen_cores::QueryShown;
 use name_seen_parts::{Around, Refusal};
 use perm_values::{Key, List, NoMemory};
-use query_spines::{is_monotone_along, let_go_along};
+use query_facts::{is_monotone_along, let_go_along};
 use sql_tree::QueryTree;
 
 /// A query as it was made, whose tree stands at this offset, or that it isn't monotone.

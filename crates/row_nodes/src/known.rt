@@ -22,7 +22,7 @@ use bag_algebra::{Env, Expr, Query, SubKind, Sublink};
 use indexmap::IndexMap;
 use null_logic::{Compare, Truth};
 use perm_values::{List, NoMemory, Row, Rows, Value};
-use query_reach::nearest_places;
+use query_facts::nearest_places;
 use row_joins::{Cells, ColumnPair, key_table, keyed_columns, rows_around};
 use std::alloc::Global;
 

@@ -5,7 +5,7 @@ use Rattle.std.specs.Option.{option_map_or}
 use Rattle.std.specs.Prelude.{is_none, is_some}
 use Rattle.bag_algebra.proofs.TablesRead.{each_table-from_told}
 use Rattle.bag_algebra.specs.TablesRead.{EachTable, TableRead, tables_read}
-use Rattle.monotone_queries.specs.Conditions.{ConditionFits}
+use Rattle.query_facts.specs.monotone.Conditions.{ConditionFits}
 use Rattle.perm_catalog.specs.Changes.{table_named, view_named, is_free}
 use Rattle.perm_catalog.specs.Contents.{Contents}
 use Rattle.perm_catalog.specs.Lookups.{first_user}

@@ -13,7 +13,7 @@ use Rattle.bag_algebra.specs.declared.query.Label.TheVariants.{Relation, Externa
 use Rattle.bag_algebra.specs.declared.query.Query.{Query, end_of-Sublink}
 use Rattle.bag_algebra.specs.declared.query.Query.TheVariants.{Table, Single}
 use Rattle.bag_algebra.specs.declared.query.SubKind.TheVariants.{Exists}
-use Rattle.monotone_queries.specs.Monotone.{is_monotone}
+use Rattle.query_facts.specs.monotone.Monotone.{is_monotone}
 use Rattle.delete_impact.specs.vanishing.Doomed.{after_deletion, has_doomed, is_doomed, places_over}
 use Rattle.worked_examples.specs.Queries.{none, num, x, z, holding, col, number, yes, compared, r, s, item, named, select, select_a, where_sub}
 

@@ -15,7 +15,7 @@ use Rattle.bag_algebra.specs.built.Scopes.{is_plain-Except}
 use Rattle.bag_algebra.specs.declared.expr.Expr.{Expr}
 use Rattle.bag_algebra.specs.declared.query.Query.{Query}
 use Rattle.bag_algebra.specs.declared.query.Query.TheVariants.{Except}
-use Rattle.monotone_queries.specs.Monotone.{is_monotone}
+use Rattle.query_facts.specs.monotone.Monotone.{is_monotone}
 use Rattle.delete_impact.specs.reduced.Reduced.{not_true, over_rows, reduced, missing, missing_part}
 use Rattle.delete_impact.proofs.reduced.BehindRows.{by}
 use Rattle.delete_impact.proofs.reduced.OverRowsForms.{plain-monotone, formed-over_rows, kinds-over_rows, plain-over_rows, tables-over_rows, not_true-on_tables, OnTables}

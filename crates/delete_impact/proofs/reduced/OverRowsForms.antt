@@ -19,8 +19,8 @@ use Rattle.bag_algebra.specs.declared.expr.Expr.TheVariants.{IsTruth}
 use Rattle.bag_algebra.specs.declared.query.JoinKind.TheVariants.{Inner, Left, Right, Full}
 use Rattle.bag_algebra.specs.declared.query.Query.{Query, Row_of-Sublink, more_of-Sublink, end_of-Sublink}
 use Rattle.bag_algebra.specs.declared.query.Query.TheVariants.{Table, Single}
-use Rattle.monotone_queries.specs.Monotone.{is_monotone, is_relation, is_whole_table}
-use Rattle.monotone_queries.proofs.Nodes.{whole_table-is}
+use Rattle.query_facts.specs.monotone.Monotone.{is_monotone, is_relation, is_whole_table}
+use Rattle.query_facts.proofs.Nodes.{whole_table-is}
 use Rattle.query_laws.specs.replaced.OverQueries.{over_queries, sub_over_queries, HasColumns}
 use Rattle.query_laws.proofs.KeptColumns.{kinds-over}
 use Rattle.query_laws.proofs.KeptForms.{formed-over}

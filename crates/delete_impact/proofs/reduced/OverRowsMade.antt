@@ -18,8 +18,8 @@ use Rattle.bag_algebra.specs.declared.query.Label.{Label}
 use Rattle.bag_algebra.specs.declared.query.Query.{Query, end_of-Sublink}
 use Rattle.bag_algebra.specs.declared.query.Query.TheVariants.{Table, Base, Filter, Project, Join, Apply, Union, Intersect, Except, Distinct, Aggregate, Limit, Prov}
 use Rattle.bag_algebra.specs.declared.query.Sublink.{Sublink}
-use Rattle.monotone_queries.specs.Monotone.{is_inner, is_monotone, is_relation, is_whole_table}
-use Rattle.monotone_queries.proofs.Nodes.{is_monotone-Base, whole_table-is}
+use Rattle.query_facts.specs.monotone.Monotone.{is_inner, is_monotone, is_relation, is_whole_table}
+use Rattle.query_facts.proofs.Nodes.{is_monotone-Base, whole_table-is}
 use Rattle.delete_impact.specs.reduced.Reduced.{over_rows, rows_of}
 
 module _ (id : ℕ) (condition : Expr) where

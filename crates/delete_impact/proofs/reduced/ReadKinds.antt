@@ -14,8 +14,8 @@ use Rattle.bag_algebra.specs.built.Patterns.{BaseOf, FilterOf, ProjectOf, JoinOf
 use Rattle.bag_algebra.specs.declared.query.JoinKind.TheVariants.{Inner, Left, Right, Full}
 use Rattle.bag_algebra.specs.declared.query.Query.{Query, Row_of-Sublink, more_of-Sublink, end_of-Sublink}
 use Rattle.bag_algebra.specs.declared.query.Query.TheVariants.{Table, Single}
-use Rattle.monotone_queries.specs.Monotone.{is_monotone, is_relation, is_whole_table}
-use Rattle.monotone_queries.proofs.Nodes.{whole_table-is}
+use Rattle.query_facts.specs.monotone.Monotone.{is_monotone, is_relation, is_whole_table}
+use Rattle.query_facts.proofs.Nodes.{whole_table-is}
 use Rattle.delete_impact.specs.reduced.Reads.{Unread, IsRead, first_there, first_kinds, first_of}
 
 then_none : (found : Option (List Kind)) → found ≡ first_there found None

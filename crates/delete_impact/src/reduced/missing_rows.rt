@@ -1,6 +1,6 @@
 //! The rows that a query doesn't have over what is left of a table, and a query behind another.
 ghost use Rattle.std.specs.Prelude.{◌≡◌, IfOk, IsTrue};
-ghost use Rattle.monotone_queries.specs.Monotone.{is_monotone};
+ghost use Rattle.query_facts.specs.monotone.Monotone.{is_monotone};
 ghost use Rattle.delete_impact.specs.reduced.Reduced.{behind, missing, missing_part};
 
 use crate::reduced::some_rows::{over_rows, reduced};

@@ -7,7 +7,7 @@ ghost use Rattle.bag_algebra.specs.declared.query.Query.TheVariants.{Table};
 ghost use Rattle.bag_algebra.specs.declared.query.Query.{end_of-Sublink};
 ghost use Rattle.perm_values.specs.declared.kind.Kind.{Kind};
 ghost use Rattle.delete_impact.specs.reduced.Reduced.{not_true, over_rows, reduced, rows_of};
-ghost use Rattle.monotone_queries.specs.Monotone.{is_monotone};
+ghost use Rattle.query_facts.specs.monotone.Monotone.{is_monotone};
 
 use bag_algebra::{Expr, Query};
 use contribution::{join_on, projection, selection};

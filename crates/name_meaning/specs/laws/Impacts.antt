@@ -7,8 +7,8 @@ use Rattle.bag_algebra.specs.TablesRead.{EachTable}
 use Rattle.bag_algebra.specs.WellFormed.{HasKind, WellFormed}
 use Rattle.bag_algebra.specs.declared.expr.Expr.{Expr}
 use Rattle.bag_algebra.specs.declared.query.Query.{Query}
-use Rattle.monotone_queries.specs.Conditions.{ConditionFits}
-use Rattle.monotone_queries.specs.Monotone.{is_monotone}
+use Rattle.query_facts.specs.monotone.Conditions.{ConditionFits}
+use Rattle.query_facts.specs.monotone.Monotone.{is_monotone}
 use Rattle.perm_catalog.specs.Changes.{table_named}
 use Rattle.perm_catalog.specs.Columns.{column_kinds}
 use Rattle.perm_catalog.specs.Contents.{Contents}

@@ -11,7 +11,7 @@ use bag_algebra::{Expr, Item, Query, fault_free, faultless};
 use contribution::kinds;
 use null_logic::Operator;
 use perm_values::{Copyable, Kind, List, NoMemory};
-use query_reach::is_closed;
+use query_facts::is_closed;
 use std::alloc::Global;
 
 /// A query beside rows of some width: what its items make of such a row and a row of the base on which the test is true. The

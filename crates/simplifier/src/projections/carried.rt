@@ -5,7 +5,7 @@ ghost use Rattle.simplifier.specs.projections.Carried.{AllCarried, IsCarried, Le
 use bag_algebra::{Expr, Sublink};
 use contribution::moved;
 use perm_values::{List, NoMemory};
-use query_reach::reach;
+use query_facts::reach;
 use std::alloc::Global;
 use std::mem::replace;
 

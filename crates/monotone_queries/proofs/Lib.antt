@@ -1,2 +1,0 @@
-pub mod AllPlaces
-pub mod Nodes

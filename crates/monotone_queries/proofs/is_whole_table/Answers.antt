@@ -1,6 +1,0 @@
-use Rattle.std.proofs.Common.{sym}
-use Rattle.monotone_queries.proofs.Nodes.{no_whole_table}
-use Rattle.monotone_queries.proofs.is_whole_table.Goals as goal
-
-pub returns-in_default : goal.returns-in_default
-returns-in_default c = sym (no_whole_table c.args.input.now c.args.places.now c.in_default.not-Table)

@@ -1,0 +1,6 @@
+pub mod Alike
+pub mod AlikeRows
+pub mod AllPlaces
+mod Gathered
+mod Greatest
+pub mod Nodes

@@ -1,0 +1,2 @@
+pub mod reach
+pub mod monotone

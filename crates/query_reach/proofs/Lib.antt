@@ -1,4 +1,0 @@
-pub mod Alike
-pub mod AlikeRows
-mod Gathered
-mod Greatest

@@ -1,7 +1,0 @@
-use Rattle.query_reach.specs.reads.Columns.{one_nearer}
-use Rattle.query_reach.specs.declared.reads.queries.Column.{Column}
-use Rattle.query_reach.proofs.Gathered.{SoFar}
-use Rattle.query_reach.proofs.reads.queries.with_behind.Given as goal
-
-abbrev pub invariant-loop-column : goal.invariant-loop-column
-invariant-loop-column l = SoFar (λ (column : Column). one_nearer column.level column.place) l.columns l.fn.found l.column-index l.more
