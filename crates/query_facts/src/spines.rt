@@ -1,8 +1,6 @@
 //! Queries gone through along their first inputs by a loop: a chain of set operations or of joins is as many nodes over one another
 //! there, and it may be as long as a script.
 
-#![tactic(auto, using(bag_algebra::proofs::Smaller::smaller))]
-
 mod dropped;
 mod monotone;
 
