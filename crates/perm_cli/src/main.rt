@@ -4,7 +4,7 @@
 
 ghost use Rattle.std.specs.Prelude.{◌≡◌};
 ghost use Rattle.std.specs.Process.{exit_status};
-ghost use Rattle.run_meaning.specs.Statuses.{number_of};
+ghost use Rattle.perm_engine.specs.meaning.Statuses.{number_of};
 ghost use Rattle.perm_cli.specs.declared.WordsError.TheVariants.{NoMemory as OutOfMemory};
 
 mod telling;

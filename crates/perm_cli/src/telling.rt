@@ -1,10 +1,9 @@
 //! What a person is told of a refusal. Where it stands in the script, the script is read once more, and nothing is told where that
 //! fails, where memory is wanting, or where what is read then can't be what was run.
-use perm_engine::Status;
+use perm_engine::{SCRIPT_LIMIT, Status, Wanted, read_words};
 use perm_io::{Files, WatchedFiles, read_all};
 use perm_values::{Bytes, Chars};
 use refusal_notes::{Cause, cause_of, line_at, note};
-use run_meaning::{SCRIPT_LIMIT, Wanted, read_words};
 use std::alloc::Global;
 use std::{fs, rt};
 

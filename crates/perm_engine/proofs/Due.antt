@@ -6,7 +6,7 @@ use Rattle.name_seen_parts.specs.declared.refusal.Refusal.TheVariants as analysi
 use Rattle.name_meaning.specs.declared.answer.Break.{Break}
 use Rattle.name_meaning.specs.declared.answer.Resolved.{Resolved}
 use Rattle.statement_meaning.specs.declared.refusal.StepRefusal.{StepRefusal}
-use Rattle.run_meaning.specs.Resolving.{IsDue}
+use Rattle.perm_engine.specs.meaning.Resolving.{IsDue}
 
 -- what name analysis tells first is due
 whole≢broken : (made : Resolved) (b : Break) → (whole : Result Resolved Refusal) → whole ≡ Ok made → whole ≡ Err (analysis.Break b) → ⊥

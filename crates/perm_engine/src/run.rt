@@ -16,24 +16,24 @@
 //! | or the text of the query itself | `print`, below `explain` | `Explains` |
 //! | why the run ends | `finish`, `refuse`, `stop` | `Ends` |
 ghost use Rattle.std.specs.Prelude.{◌≡◌, ◌⊎◌, true, false};
-ghost use Rattle.run_meaning.specs.words.Requests.{request_of};
-ghost use Rattle.run_meaning.specs.declared.words.wanted.Wanted.TheVariants.{Misworded};
-ghost use Rattle.run_meaning.specs.generated.Generated.{generated};
-ghost use Rattle.run_meaning.specs.headline.Headline.{IsTold};
+ghost use Rattle.perm_engine.specs.meaning.words.Requests.{request_of};
+ghost use Rattle.perm_engine.specs.declared.meaning.words.wanted.Wanted.TheVariants.{Misworded};
+ghost use Rattle.perm_engine.specs.meaning.generated.Generated.{generated};
+ghost use Rattle.perm_engine.specs.meaning.headline.Headline.{IsTold};
 ghost use Rattle.perm_catalog.specs.Changes.{nothing_held};
 ghost use Rattle.perm_io.specs.Counts.{HasRisen};
 ghost use Rattle.perm_io.specs.Found.{CanBe};
 ghost use Rattle.sql_tree.specs.Regular.{RegularStatement, Each};
 ghost use Rattle.statement_meaning.specs.Answers.{can_be, file_limit};
 ghost use Rattle.statement_meaning.specs.Answers.{over as seen};
-ghost use Rattle.run_meaning.specs.Ends.{Completes, EndsOne, EndsSome, over};
-ghost use Rattle.run_meaning.specs.Run.{Runs, RunsFrom, RunsNamed, RunsScript, script_files, IsWhole, IsSteady, IsOfScript};
+ghost use Rattle.perm_engine.specs.meaning.Ends.{Completes, EndsOne, EndsSome, over};
+ghost use Rattle.perm_engine.specs.meaning.Run.{Runs, RunsFrom, RunsNamed, RunsScript, script_files, IsWhole, IsSteady, IsOfScript};
 
 use crate::session::Session;
 use name_statements::let_statements_go;
 use perm_io::{Files, ReadError, Sink, read_all, write_all};
 use perm_values::{Chars, List, NoMemory};
-use run_meaning::{
+use crate::meaning::{
     SCRIPT_LIMIT, Status, Wanted, every_run_is_told_by_the_headline, finish, generated, read_words,
     refuse, script_of, stop,
 };

@@ -10,7 +10,7 @@ ghost use Rattle.statement_meaning.specs.declared.refusal.StepRefusal.TheVariant
 ghost use Rattle.name_statements.specs.Own.{own_breaks};
 ghost use Rattle.name_meaning.specs.Statements.{resolved};
 ghost use Rattle.statement_steps.specs.Running.{KeepsRun};
-ghost use Rattle.run_meaning.specs.Resolving.{IsDue, Resolves};
+ghost use Rattle.perm_engine.specs.meaning.Resolving.{IsDue, Resolves};
 ghost use Rattle.perm_engine.specs.Sessions.{begun_with};
 
 use name_analysis::resolve;
@@ -20,7 +20,7 @@ use name_statements::{let_catalog_go, let_resolved_go};
 use perm_catalog::Catalog;
 use perm_io::Files;
 use perm_values::Bytes;
-use run_meaning::carried_out;
+use crate::meaning::carried_out;
 use sql_tree::Statement;
 use statement_meaning::{
     StepRefusal, statements_keep_catalogs_sound, whole_statements_add_soundly,

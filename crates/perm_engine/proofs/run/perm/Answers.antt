@@ -1,19 +1,19 @@
 use Rattle.std.proofs.Common.{◌≡◌, ◌∙◌, ◌⊎◌, List, ℕ, refl, sym, inl, inr, subst}
-use Rattle.run_meaning.specs.words.Requests.{request_of}
-use Rattle.run_meaning.specs.declared.words.wanted.Wanted.{Wanted}
-use Rattle.run_meaning.specs.declared.words.wanted.Wanted.TheVariants.{Script, Generated, Misworded}
+use Rattle.perm_engine.specs.meaning.words.Requests.{request_of}
+use Rattle.perm_engine.specs.declared.meaning.words.wanted.Wanted.{Wanted}
+use Rattle.perm_engine.specs.declared.meaning.words.wanted.Wanted.TheVariants.{Script, Generated, Misworded}
 use Rattle.perm_io.specs.Counts.{HasRisen}
 use Rattle.statement_meaning.specs.Answers.{can_be, over}
-use Rattle.run_meaning.specs.Ends.{EndsOne, RunsOver, over as output}
-use Rattle.run_meaning.specs.Run.{ended, script_files}
-use Rattle.run_meaning.specs.Stops.{Misused}
-use Rattle.run_meaning.specs.declared.status.Status.{Status}
-use Rattle.run_meaning.specs.declared.status.Status.TheVariants as status
-use Rattle.run_meaning.proofs.Headlines.{ends-told}
-use Rattle.run_meaning.proofs.Completing.{completes, steadied, whole-flushed, write_fault}
-use Rattle.run_meaning.proofs.Looping.{other_end, used-of_script}
-use Rattle.run_meaning.proofs.Begun.{Opens-none}
-use Rattle.run_meaning.proofs.Running.{EndsOne-silent, EndsOne-wanted, Runs-misused}
+use Rattle.perm_engine.specs.meaning.Ends.{EndsOne, RunsOver, over as output}
+use Rattle.perm_engine.specs.meaning.Run.{ended, script_files}
+use Rattle.perm_engine.specs.meaning.Stops.{Misused}
+use Rattle.perm_engine.specs.declared.meaning.status.Status.{Status}
+use Rattle.perm_engine.specs.declared.meaning.status.Status.TheVariants as status
+use Rattle.perm_engine.proofs.meaning.Headlines.{ends-told}
+use Rattle.perm_engine.proofs.meaning.Completing.{completes, steadied, whole-flushed, write_fault}
+use Rattle.perm_engine.proofs.meaning.Looping.{other_end, used-of_script}
+use Rattle.perm_engine.proofs.meaning.Begun.{Opens-none}
+use Rattle.perm_engine.proofs.meaning.Running.{EndsOne-silent, EndsOne-wanted, Runs-misused}
 use Rattle.perm_engine.proofs.run.perm.Goals as goal
 
 abbrev Used : Status → Type 0

@@ -1,9 +1,9 @@
 use Rattle.std.proofs.Common.{◌∙◌, refl, inr, subst, arith}
 use Rattle.statement_meaning.specs.Answers.{can_be, over}
-use Rattle.run_meaning.specs.Ends.{EndsOne, over as output}
-use Rattle.run_meaning.specs.Run.{RunsScript}
-use Rattle.run_meaning.specs.declared.status.Status.TheVariants as status
-use Rattle.run_meaning.proofs.Running.{EndsOne-silent}
+use Rattle.perm_engine.specs.meaning.Ends.{EndsOne, over as output}
+use Rattle.perm_engine.specs.meaning.Run.{RunsScript}
+use Rattle.perm_engine.specs.declared.meaning.status.Status.TheVariants as status
+use Rattle.perm_engine.proofs.meaning.Running.{EndsOne-silent}
 use Rattle.perm_engine.proofs.run.run_generated.Goals as goal
 
 pub returns-in-Ok : goal.returns-in-Ok

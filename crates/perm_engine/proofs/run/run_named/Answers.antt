@@ -3,13 +3,13 @@ use Rattle.perm_io.specs.Answers.{is_fault}
 use Rattle.perm_io.specs.Counts.{CountsFault, HasRisen}
 use Rattle.perm_io.specs.Found.{Missing, TooLong, Failed}
 use Rattle.statement_meaning.specs.Answers.{can_be, over}
-use Rattle.run_meaning.specs.Ends.{over as output}
-use Rattle.run_meaning.specs.Run.{ended}
-use Rattle.run_meaning.specs.Stops.{NoFile, LongFile, FailedFile}
-use Rattle.run_meaning.specs.declared.status.Status.TheVariants as status
-use Rattle.run_meaning.proofs.Looping.{other_end, failed-unsteady}
-use Rattle.run_meaning.proofs.Begun.{Opens-none}
-use Rattle.run_meaning.proofs.Running.{Runs-found, Runs-read, of_script}
+use Rattle.perm_engine.specs.meaning.Ends.{over as output}
+use Rattle.perm_engine.specs.meaning.Run.{ended}
+use Rattle.perm_engine.specs.meaning.Stops.{NoFile, LongFile, FailedFile}
+use Rattle.perm_engine.specs.declared.meaning.status.Status.TheVariants as status
+use Rattle.perm_engine.proofs.meaning.Looping.{other_end, failed-unsteady}
+use Rattle.perm_engine.proofs.meaning.Begun.{Opens-none}
+use Rattle.perm_engine.proofs.meaning.Running.{Runs-found, Runs-read, of_script}
 use Rattle.perm_engine.proofs.run.run_named.Goals as goal
 
 pub returns-in-Ok : goal.returns-in-Ok

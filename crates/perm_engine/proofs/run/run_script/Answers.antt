@@ -1,8 +1,8 @@
 use Rattle.std.proofs.Common.{refl}
 use Rattle.statement_meaning.specs.Answers.{can_be, over}
-use Rattle.run_meaning.specs.Ends.{over as output}
-use Rattle.run_meaning.proofs.Looping.{misspelled-of_script, misspelled-unfailed}
-use Rattle.run_meaning.proofs.Running.{EndsOne-script, EndsOne-refused}
+use Rattle.perm_engine.specs.meaning.Ends.{over as output}
+use Rattle.perm_engine.proofs.meaning.Looping.{misspelled-of_script, misspelled-unfailed}
+use Rattle.perm_engine.proofs.meaning.Running.{EndsOne-script, EndsOne-refused}
 use Rattle.perm_engine.proofs.run.run_script.Goals as goal
 
 pub run_statements-requires : goal.run_statements-requires

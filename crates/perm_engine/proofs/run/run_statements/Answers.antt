@@ -10,14 +10,14 @@ use Rattle.sql_tree.specs.declared.statement.Statement.{Statement}
 use Rattle.statement_meaning.specs.Answers.{can_be, file_limit, has_failed, over}
 use Rattle.statement_meaning.specs.Asking.{asked}
 use Rattle.perm_engine.specs.Sessions.{SessionState}
-use Rattle.run_meaning.specs.Stops.{ToTheEnd}
-use Rattle.run_meaning.specs.declared.status.Status.TheVariants as status
-use Rattle.run_meaning.proofs.Ending.{HasRun, HasRun-nothing, HasRun-more, HasRun-cut, HasRun-stopped, HasRun-done}
-use Rattle.run_meaning.proofs.Firsts.{next-after}
-use Rattle.run_meaning.proofs.Looping.{next-regular, left-regular, text≢memory, stopped-of_script, stopped-read_fault, stopped-steady, other_end}
-use Rattle.run_meaning.proofs.Running.{of_script}
-use Rattle.run_meaning.proofs.Turns.{begun-told, still_risen}
-use Rattle.run_meaning.proofs.Widening.{CanBe-moved, takes-wider, rests-moved}
+use Rattle.perm_engine.specs.meaning.Stops.{ToTheEnd}
+use Rattle.perm_engine.specs.declared.meaning.status.Status.TheVariants as status
+use Rattle.perm_engine.proofs.meaning.Ending.{HasRun, HasRun-nothing, HasRun-more, HasRun-cut, HasRun-stopped, HasRun-done}
+use Rattle.perm_engine.proofs.meaning.Firsts.{next-after}
+use Rattle.perm_engine.proofs.meaning.Looping.{next-regular, left-regular, text≢memory, stopped-of_script, stopped-read_fault, stopped-steady, other_end}
+use Rattle.perm_engine.proofs.meaning.Running.{of_script}
+use Rattle.perm_engine.proofs.meaning.Turns.{begun-told, still_risen}
+use Rattle.perm_engine.proofs.meaning.Widening.{CanBe-moved, takes-wider, rests-moved}
 use Rattle.perm_engine.proofs.run.run_statements.Goals as goal
 
 pub loop-statement-init : goal.loop-statement-init

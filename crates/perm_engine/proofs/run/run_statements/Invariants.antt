@@ -2,7 +2,7 @@ use Rattle.std.proofs.Common.{◌≡◌, ◌+◌, ◌≤◌, ◌<◌, ◌^◌, l
 use Rattle.std.specs.Vec.Iter.{into_iter_items}
 use Rattle.perm_catalog.specs.Changes.{nothing_held}
 use Rattle.sql_tree.specs.Regular.{Each, RegularStatement}
-use Rattle.run_meaning.proofs.Ending.{HasRun}
+use Rattle.perm_engine.proofs.meaning.Ending.{HasRun}
 use Rattle.perm_engine.proofs.run.run_statements.Given as goal
 
 abbrev pub invariant-loop-statement : goal.invariant-loop-statement

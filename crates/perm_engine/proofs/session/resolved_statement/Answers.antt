@@ -1,7 +1,7 @@
 use Rattle.std.specs.Prelude.{Ok}
 use Rattle.name_statements.specs.Own.{own_breaks}
 use Rattle.name_meaning.specs.Statements.{resolved}
-use Rattle.run_meaning.proofs.Stepping.{made-whole}
+use Rattle.perm_engine.proofs.meaning.Stepping.{made-whole}
 use Rattle.perm_engine.proofs.Due.{due-whole}
 use Rattle.perm_engine.proofs.session.resolved_statement.Goals as goal
 

@@ -2,7 +2,7 @@ use Rattle.std.proofs.Common.{◌≡◌, ◌∙◌, IsTrue, inl, refl, subst, sy
 use Rattle.std.proofs.lemmas.Result.{err_from_is_err_and}
 use Rattle.name_meaning.specs.Statements.{resolved}
 use Rattle.statement_meaning.specs.Answers.{over}
-use Rattle.run_meaning.proofs.Stepping.{asked-carried, begins-made, due-carried, due-refused, made-ran, refused-ran, refused-takes, refused-backed, refused-unfailed, refused-unbegun}
+use Rattle.perm_engine.proofs.meaning.Stepping.{asked-carried, begins-made, due-carried, due-refused, made-ran, refused-ran, refused-takes, refused-backed, refused-unfailed, refused-unbegun}
 use Rattle.name_statements.specs.Own.{own_breaks}
 use Rattle.perm_engine.proofs.session.Session.step.Goals as goal
 

@@ -1,7 +1,0 @@
-use Rattle.statement_meaning.specs.Answers.{can_be}
-use Rattle.run_meaning.proofs.HeadlineSteps.{sound-at}
-use Rattle.run_meaning.proofs.headline.runs.the_contents_of_a_run_are_sound.Goals as goal
-
-pub returns : goal.returns
-returns c = λ files contents statements ran sound regular met.
-    sound-at c.statements_keep_catalogs_sound.ensures (can_be files) contents statements ran sound regular met

@@ -1,9 +1,0 @@
-use Rattle.std.proofs.Common.{Err, sym, subst}
-use Rattle.run_meaning.specs.Scripts.{IsReading}
-use Rattle.run_meaning.proofs.Misspelling.{IsReading-no_tokens}
-use Rattle.run_meaning.proofs.script.script_of.Goals as goal
-
-pub returns-in-Err : goal.returns-in-Err
-returns-in-Err c =
-    subst (λ r. IsReading c.args.bytes.now (Err r)) (sym c.no_tokens.ensures)
-    (IsReading-no_tokens c.args.bytes.now c.in-Err.error c.in-Err.ensures.refused)

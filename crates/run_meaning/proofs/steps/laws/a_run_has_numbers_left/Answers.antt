@@ -1,7 +1,0 @@
-use Rattle.std.proofs.Common.{arith}
-use Rattle.perm_catalog.specs.Changes.{nothing_held}
-use Rattle.run_meaning.proofs.Firsts.{stops-late}
-use Rattle.run_meaning.proofs.steps.laws.a_run_has_numbers_left.Goals as goal
-
-pub returns : goal.returns
-returns c = λ statements b short stops e. let l = stops-late (nothing_held 1) statements b e stops in omega (arith, short, l)
