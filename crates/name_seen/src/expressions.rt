@@ -17,7 +17,10 @@ ghost use Rattle.name_seen.specs.Nodes.{NodeBehind};
 
 use crate::queries::query_seen;
 use name_meaning::{Break, Gives, Need, Rule};
-use name_seen_cores::{Facts, InnerColumns, add_inner, aggregated, answered, chain_gives, column, exists_over, first_need, in_argument, in_tested, kind_over, operands_with, scalar_over, tested_over};
+use name_seen_cores::{
+    Facts, InnerColumns, add_inner, aggregated, answered, chain_gives, column, exists_over,
+    first_need, in_argument, in_tested, kind_over, operands_with, scalar_over, tested_over,
+};
 use name_seen_parts::{Here, Operands, Refusal, count_kind, gives_of, need_of, ungrouped};
 use null_logic::Operator;
 use perm_values::{Boxed, Kind};

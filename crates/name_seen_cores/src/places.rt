@@ -8,9 +8,9 @@ ghost use Rattle.name_meaning.specs.Queries.{out_column};
 ghost use Rattle.name_seen_parts.specs.Columns.{columns_of};
 ghost use Rattle.name_seen_cores.specs.Behind.{PlacesBehind};
 
+use crate::from::{Facts, QueryShown};
 use bag_algebra::Place;
 use contribution::{PlaceList, prov_names};
-use crate::from::{Facts, QueryShown};
 use name_seen_parts::ShownColumn;
 use perm_values::{Chars, Copyable, Kind, List, NoMemory};
 use std::alloc::Global;

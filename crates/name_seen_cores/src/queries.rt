@@ -12,8 +12,8 @@ ghost use Rattle.name_seen_cores.specs.declared.from.facts.Facts.{Facts as Gathe
 ghost use Rattle.name_meaning.specs.laws.Facts.{no_facts};
 ghost use Rattle.name_seen_cores.specs.Behind.{query_behind};
 
-use crate::places::with_places;
 use crate::from::{Facts, QueryShown};
+use crate::places::with_places;
 use name_seen_parts::{Around, Refusal, ShownColumn, keys_break};
 use perm_values::List;
 use sql_tree::{OrderTree, SetTree};

@@ -7,8 +7,8 @@ ghost use Rattle.name_seen_parts.specs.Standing.{standing_in};
 ghost use Rattle.name_seen_cores.specs.Inner.{InnerSeen, exists_over, first_shown, scalar_over, tested_over, tested_by};
 ghost use Rattle.name_seen_cores.specs.from.Queried.{QueryWhole};
 
-use name_meaning::{Break, Rule};
 use crate::from::{Facts, QueryShown};
+use name_meaning::{Break, Rule};
 use name_seen_parts::{Refusal, ShownColumn, Standing, unites};
 use perm_values::Kind;
 

@@ -29,14 +29,14 @@ ghost use Rattle.statement_meaning.specs.Answers.{over as seen};
 ghost use Rattle.perm_engine.specs.meaning.Ends.{Completes, EndsOne, EndsSome, over};
 ghost use Rattle.perm_engine.specs.meaning.Run.{Runs, RunsFrom, RunsNamed, RunsScript, script_files, IsWhole, IsSteady, IsOfScript};
 
-use crate::session::Session;
-use name_statements::let_statements_go;
-use perm_io::{Files, ReadError, Sink, read_all, write_all};
-use perm_values::{Chars, List, NoMemory};
 use crate::meaning::{
     SCRIPT_LIMIT, Status, Wanted, every_run_is_told_by_the_headline, finish, generated, read_words,
     refuse, script_of, stop,
 };
+use crate::session::Session;
+use name_statements::let_statements_go;
+use perm_io::{Files, ReadError, Sink, read_all, write_all};
+use perm_values::{Chars, List, NoMemory};
 use sql_parser::a_spelled_script_is_regular;
 use sql_tree::Statement;
 use std::alloc::Global;

@@ -13,6 +13,7 @@ ghost use Rattle.statement_steps.specs.Running.{KeepsRun};
 ghost use Rattle.perm_engine.specs.meaning.Resolving.{IsDue, Resolves};
 ghost use Rattle.perm_engine.specs.Sessions.{begun_with};
 
+use crate::meaning::carried_out;
 use name_analysis::resolve;
 use name_meaning::Resolved;
 use name_seen_parts::Refusal;
@@ -20,7 +21,6 @@ use name_statements::{let_catalog_go, let_resolved_go};
 use perm_catalog::Catalog;
 use perm_io::Files;
 use perm_values::Bytes;
-use crate::meaning::carried_out;
 use sql_tree::Statement;
 use statement_meaning::{
     StepRefusal, statements_keep_catalogs_sound, whole_statements_add_soundly,

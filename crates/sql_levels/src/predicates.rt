@@ -11,8 +11,8 @@ ghost use Rattle.sql_tree.specs.declared.grammar.sort.Sort.TheVariants as s;
 use crate::tail::Tail;
 use null_logic::{Compare, Truth};
 use perm_values::Boxed;
-use sql_tree::{Cursor, ExprTree, Nest, QueryTree, Sort, Unread, same_sort, sort_of};
 use sql_lexer::Token;
+use sql_tree::{Cursor, ExprTree, Nest, QueryTree, Sort, Unread, same_sort, sort_of};
 
 const TRUTHS: [Sort; 3] = [Sort::True, Sort::False, Sort::Unknown];
 

@@ -11,8 +11,10 @@ ghost use Rattle.sql_tree.specs.declared.grammar.sort.Sort.TheVariants as s;
 use crate::words::words;
 use null_logic::Arith;
 use perm_values::{Boxed, List, NoMemory};
-use sql_tree::{Cursor, ExprBody, ExprStep, ExprTree, Sort, Unread, all_items, node, same_sort, sort_of};
 use sql_lexer::Token;
+use sql_tree::{
+    Cursor, ExprBody, ExprStep, ExprTree, Sort, Unread, all_items, node, same_sort, sort_of,
+};
 use std::alloc::Global;
 
 fn arith_of(token: &Token<'_>) -> Arith

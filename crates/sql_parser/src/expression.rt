@@ -9,8 +9,8 @@ ghost use Rattle.sql_tree.specs.grammar.Tables.{begins};
 ghost use Rattle.sql_parser.specs.built.Literals.{ends};
 
 use perm_values::Boxed;
-use sql_tree::{Cursor, ExprTree, Nest, QueryTree, Sort, Unread, node};
 use sql_levels::{Connectives, LITERALS, Predicates, Primaries, Sums, literal};
+use sql_tree::{Cursor, ExprTree, Nest, QueryTree, Sort, Unread, node};
 
 /// What ends an expression in a list or in parentheses.
 const ENDS: [Sort; 2] = [Sort::Comma, Sort::Closing];

@@ -2,8 +2,8 @@ ghost use Rattle.std.specs.Prelude.{◌≡◌, ◌<◌, ◌≤◌, ◌+◌};
 ghost use Rattle.sql_parser.specs.Nesting as spec;
 
 use perm_values::List;
-use sql_tree::{Sort, same_sort, sort_of};
 use sql_lexer::Token;
+use sql_tree::{Sort, same_sort, sort_of};
 
 /// How many parentheses and CASEs may be open at once.
 const LIMIT: u64 = 64;

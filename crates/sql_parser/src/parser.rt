@@ -5,8 +5,8 @@ ghost use Rattle.sql_parser.specs.Spells as spec;
 use crate::nesting::too_deep;
 use crate::{SyntaxError, statements};
 use perm_values::List;
-use sql_tree::{Cursor, Script, Unread};
 use sql_lexer::Token;
+use sql_tree::{Cursor, Script, Unread};
 use std::alloc::Global;
 
 /// The script that was read, if it reaches the end of the tokens.

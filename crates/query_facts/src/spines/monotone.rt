@@ -1,8 +1,8 @@
 ghost use Rattle.std.specs.Prelude.{◌≡◌};
 ghost use Rattle.query_facts.specs.monotone.Monotone as queries;
 
-use bag_algebra::{Inputs, JoinKind, Query};
 use crate::monotone::is_monotone;
+use bag_algebra::{Inputs, JoinKind, Query};
 
 /// Whether the query is monotone (`is_monotone` of `monotone_queries`), found without going down its first inputs by recursion. It
 /// takes no memory.

@@ -9,8 +9,11 @@ ghost use Rattle.sql_tree.specs.grammar.Symbols as n;
 
 use crate::primaries::grammar::Primaries;
 use perm_values::{Boxed, List, NoMemory};
-use sql_tree::{AggWord, Cursor, ExprBody, ExprTree, Name, QueryTree, Sort, Unread, name_of, reference, same_sort, sort_of};
 use sql_lexer::Token;
+use sql_tree::{
+    AggWord, Cursor, ExprBody, ExprTree, Name, QueryTree, Sort, Unread, name_of, reference,
+    same_sort, sort_of,
+};
 use std::alloc::Global;
 
 /// The names that are no function's word.

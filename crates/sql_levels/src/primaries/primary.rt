@@ -12,8 +12,11 @@ ghost use Rattle.sql_tree.specs.declared.grammar.sort.Sort.TheVariants as s;
 use crate::primaries::calls::column_of;
 use crate::primaries::grammar::Primaries;
 use perm_values::{Boxed, Kind, List, NoMemory};
-use sql_tree::{ArmTree, Cursor, ExprBody, ExprTree, QueryTree, Sort, Unread, all_items, node, same_sort, sort_of};
 use sql_lexer::Token;
+use sql_tree::{
+    ArmTree, Cursor, ExprBody, ExprTree, QueryTree, Sort, Unread, all_items, node, same_sort,
+    sort_of,
+};
 use std::alloc::Global;
 
 /// What a literal is.

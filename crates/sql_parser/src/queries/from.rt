@@ -10,8 +10,11 @@ ghost use Rattle.sql_parser.specs.queries.built.Sources as spelled;
 
 use crate::queries::grammar::Queries;
 use perm_values::{Boxed, List, NoMemory};
-use sql_tree::{Cursor, ExprTree, FromItem, FromSource, FromTree, JoinStep, JoinWord, NAMES, Name, QueryTree, ScopeMark, Sort, Unread, all_items, list_of, same_sort, sort_of};
 use sql_lexer::Token;
+use sql_tree::{
+    Cursor, ExprTree, FromItem, FromSource, FromTree, JoinStep, JoinWord, NAMES, Name, QueryTree,
+    ScopeMark, Sort, Unread, all_items, list_of, same_sort, sort_of,
+};
 use std::alloc::Global;
 
 /// The name of an inner query, behind the parenthesis that closes it.

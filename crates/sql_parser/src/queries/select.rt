@@ -10,8 +10,11 @@ ghost use Rattle.sql_parser.specs.queries.built.Selects as spelled;
 
 use crate::queries::grammar::Queries;
 use perm_values::{Boxed, Copyable, List, NoMemory};
-use sql_tree::{ColRef, Core, Cursor, ExprTree, FromTree, NAMES, Name, QueryTree, SelectItem, Sort, Unread, list_of};
 use sql_lexer::Token;
+use sql_tree::{
+    ColRef, Core, Cursor, ExprTree, FromTree, NAMES, Name, QueryTree, SelectItem, Sort, Unread,
+    list_of,
+};
 use std::alloc::Global;
 
 fn unboxed(part: Option<Boxed<ExprTree>>) -> Option<ExprTree>

@@ -9,8 +9,11 @@ ghost use Rattle.sql_tree.specs.grammar.Symbols as n;
 
 use crate::queries::grammar::Queries;
 use perm_values::{Boxed, List, NoMemory, both};
-use sql_tree::{Cursor, ExprTree, OrderTree, QueryTree, SetStep, SetTree, SetWord, Sort, Unread, all_items, same_sort, sort_of};
 use sql_lexer::Token;
+use sql_tree::{
+    Cursor, ExprTree, OrderTree, QueryTree, SetStep, SetTree, SetWord, Sort, Unread, all_items,
+    same_sort, sort_of,
+};
 use std::alloc::Global;
 
 fn set_word(token: &Token<'_>) -> SetWord

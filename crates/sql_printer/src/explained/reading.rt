@@ -13,9 +13,9 @@ use name_seen_parts::Refusal;
 use name_statements::{let_resolved_go, let_statement_go, let_statements_go};
 use perm_catalog::Catalog;
 use perm_values::{Bytes, List, NoMemory};
-use sql_tree::{Script, Sort, Statement, StatementBody, same_sort, sort_of};
 use sql_lexer::{LexError, Token, tokens};
 use sql_parser::{SyntaxError, a_spelled_script_is_regular, script};
+use sql_tree::{Script, Sort, Statement, StatementBody, same_sort, sort_of};
 use statement_meaning::{a_text_explains_one_meaning, whole_statements_are_ready};
 use std::alloc::Global;
 

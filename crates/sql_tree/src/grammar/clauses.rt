@@ -10,9 +10,9 @@ use crate::grammar::cursor::Cursor;
 use crate::grammar::names::name_of;
 use crate::grammar::sort::{NAMES, Sort, same_sort, sort_of};
 use crate::grammar::unread::Unread;
+use crate::{FromSource, JoinWord, Name, OrderTree, ScopeMark, SelectItem};
 use perm_values::List;
 use sql_lexer::Token;
-use crate::{FromSource, JoinWord, Name, OrderTree, ScopeMark, SelectItem};
 
 fn outer_of(token: &Token<'_>) -> JoinWord
     ensures { result ≡ b.outer_of token.now }

@@ -7,9 +7,9 @@ use crate::grammar::cursor::Cursor;
 use crate::grammar::lists::list_of;
 use crate::grammar::sort::{NAMES, Sort};
 use crate::grammar::unread::Unread;
+use crate::{ColRef, Name};
 use perm_values::{List, NoMemory};
 use sql_lexer::Token;
-use crate::{ColRef, Name};
 use std::alloc::Global;
 
 impl<'a> Cursor<'a> {

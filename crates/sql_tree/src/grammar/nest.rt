@@ -10,8 +10,8 @@ use crate::grammar::cursor::Cursor;
 use crate::grammar::lists::list_of;
 use crate::grammar::sort::Sort;
 use crate::grammar::unread::Unread;
-use perm_values::{Boxed, List, NoMemory};
 use crate::{ExprBody, ExprTree, QueryTree};
+use perm_values::{Boxed, List, NoMemory};
 use std::alloc::Global;
 
 /// What reads an expression and what reads a query, where fewer than `most` tokens are left.

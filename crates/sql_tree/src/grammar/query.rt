@@ -7,8 +7,8 @@ use crate::grammar::cursor::Cursor;
 use crate::grammar::lists::list_of;
 use crate::grammar::sort::{NAMES, Sort, same_sort, sort_of};
 use crate::grammar::unread::Unread;
-use perm_values::List;
 use crate::{ColRef, Name, OrderKey, OrderTree};
+use perm_values::List;
 
 impl<'a> Cursor<'a> {
     /// Whether DESC stands next; it or ASC is passed.

@@ -3,7 +3,9 @@ ghost use Rattle.std.specs.Prelude.{◌≡◌, ◌++◌, IfOk};
 ghost use Rattle.query_facts.specs.reach.reads.Columns.{behind, columns_of, one_nearer};
 ghost use Rattle.query_facts.specs.reach.reads.built.Columns.{all_subs_columns};
 
-use crate::reach::reads::expressions::{aggregates_columns, expr_columns, items_columns, option_columns};
+use crate::reach::reads::expressions::{
+    aggregates_columns, expr_columns, items_columns, option_columns,
+};
 use bag_algebra::{Query, Sublink};
 use perm_values::{List, NoMemory};
 use std::alloc::Global;
