@@ -38,7 +38,7 @@ NOTHING = "\\N"
 LINE = re.compile(r'"((?:[^"]|"")*)"|([^,]*)')
 SUM = re.compile(r"\bSUM ?\(")
 # What a printed text sorts by, places; where NULL stands there is the program's rule, and PostgreSQL's. SQLite's is the other one.
-SORTED = re.compile(r"(\bORDER BY )(\d+(?: DESC)?(?:, \d+(?: DESC)?)*)(?=;?$|\)| LIMIT \d)", re.M)
+SORTED = re.compile(r"(\bORDER BY )(\d+(?: DESC)?(?:,\s+\d+(?: DESC)?)*)(?=;?$|\)| LIMIT \d)", re.M)
 
 
 class Unsaid(Exception):
@@ -104,7 +104,7 @@ def models(rows):
 def nulls_told(text):
     """The text with the place of NULL said in each ORDER BY, as its dialect has it."""
     return SORTED.sub(lambda found: found[1] + ", ".join(
-        f"{key} NULLS {'FIRST' if key.endswith('DESC') else 'LAST'}" for key in found[2].split(", ")), text)
+        f"{key} NULLS {'FIRST' if key.endswith('DESC') else 'LAST'}" for key in re.split(r",\s+", found[2])), text)
 
 
 def sums_whole(text):
