@@ -1,5 +1,5 @@
-//! Which script the bytes of a file are, what a run of it is, and how it ends: what is written then, and a status; the
-//! steps of a run, and laws of runs.
+//! What a command line asks for, which script the bytes of a file are, what a run of it is, and how it ends: what is written then,
+//! and a status; the script that is made from a number; the steps of a run, and laws of runs.
 
 mod generated;
 mod headline;

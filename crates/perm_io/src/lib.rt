@@ -1,4 +1,5 @@
-//! Files to read, an output to write, and counts of their faults.
+//! Files to read, an output to write, and counts of their faults; and an output and files that hand on to others and keep a little
+//! of what went through.
 #![tactic(auto)]
 
 mod count;

@@ -1,4 +1,5 @@
-//! What a query reads of its outer rows, and whether an expression reads its own row.
+//! What a query reads of its outer rows: whether any, how many of the first columns, and which columns of which row; and whether an
+//! expression reads its own row.
 
 mod columns;
 mod laws;

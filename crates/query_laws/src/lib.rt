@@ -1,5 +1,6 @@
-//! What each node of a query means, by the counts of rows; what it means over what has the same rows, or stands for its
-//! inputs; and which witness lists a row of it has, by membership.
+//! What each node of a query means, by the counts of rows; what it means over what has the same rows, or stands for its inputs;
+//! which witness lists a row of it has, by membership; what a query means over others in the place of its tables; and dependent
+//! joins that ordinary joins serve.
 #![tactic(auto)]
 
 mod congruence;

@@ -1,4 +1,4 @@
-//! Writes queries of the algebra as SQL: one SELECT for a block of SQL.
+//! Writes queries of the algebra as SQL, one SELECT for a block of SQL, and what such texts are made of.
 #![tactic(auto)]
 
 mod clauses;

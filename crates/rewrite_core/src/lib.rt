@@ -1,4 +1,4 @@
-//! The rules that rewrite a node to a plain query with the rows of its PROVENANCE.
+//! What a rewriting is, and the rules that rewrite a node without sublinks to a plain query with the rows of its PROVENANCE.
 #![tactic(auto)]
 
 mod columns;

@@ -1,5 +1,6 @@
-//! How a node with sublinks is rewritten to a plain query with the rows of its PROVENANCE (the strategy Gen: Glavic and
-//! Alonso, EDBT 2009): the rewriting as a definition, the laws by which it is one, and the rules that make it.
+//! How a node with sublinks is rewritten to a plain query with the rows of its PROVENANCE (the strategy Gen: Glavic and Alonso,
+//! EDBT 2009): the rewriting as a definition, the laws by which it is one, and the rules that make it; and how a join with sublinks
+//! in its condition is rewritten from its pairs.
 #![tactic(auto)]
 
 mod candidates;

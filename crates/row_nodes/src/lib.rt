@@ -1,5 +1,5 @@
-//! What a node makes of rows that are there: set operations, groups, limits, items, and the pairs of joins; and
-//! what is known of its sublinks from row to row.
+//! What a node makes of rows that are there, and gives for what its inputs gave: set operations, groups, limits, items, and the
+//! pairs of joins; and what is known of its sublinks, and remembered, from row to row.
 #![tactic(auto)]
 
 mod fault_free;

@@ -1,5 +1,4 @@
 //! What was found on rows, remembered by the values that these have at some places.
-//! A table of what was found on rows, by their values at some places.
 ghost use Rattle.std.specs.Prelude.{◌≡◌, [], IfOk, OnOk, OnErr};
 ghost use Rattle.std.specs.Option.{option_copied};
 ghost use Rattle.perm_values.specs.Rows.{picked};

@@ -1,5 +1,5 @@
-//! What makes a query simpler: the tests that a condition consists of, where in a query each of them may be made, and the laws
-//! by which they move there.
+//! What makes a query simpler: the tests that a condition consists of, where in a query each of them may be made, and the laws by
+//! which they move there; nodes over what stands for their parts; and nodes that are merged with what stands below them.
 #![tactic(auto)]
 
 mod columns;

@@ -1,4 +1,4 @@
-//! Prints the answer of a query as SQL.
+//! Prints the answer of a query as SQL, and chooses the text of an EXPLAIN: with names, read back, or the plain one.
 #![tactic(auto)]
 
 mod answers;

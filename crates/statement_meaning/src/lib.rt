@@ -1,4 +1,5 @@
-//! What becomes of a statement: its text and what the catalog holds then, or why it is refused.
+//! What becomes of a statement: its text and what the catalog holds then, or why it is refused; laws of statements and of what
+//! queries answer; and when a text says what an answer means.
 #![tactic(auto)]
 
 mod explains;

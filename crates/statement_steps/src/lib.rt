@@ -1,4 +1,5 @@
-//! Carries out a statement whose names are looked up, over a catalog and files; and what a query answers.
+//! Carries out a statement whose names are looked up, over a catalog and files: what changes the catalog, and what a query, an
+//! IMPACT and an EXPLAIN answer.
 #![tactic(auto)]
 
 mod answering;

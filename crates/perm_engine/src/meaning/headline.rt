@@ -1,5 +1,4 @@
-//! The headline, and the laws of runs and of the word PROVENANCE on which it stands.
-//! The headline as one law.
+//! The headline as one law, and the laws of runs and of the word PROVENANCE on which it stands.
 ghost use Rattle.std.specs.Prelude.{ℕ, List, Option};
 ghost use Rattle.perm_io.specs.declared.named_file.NamedFile.{NamedFile};
 ghost use Rattle.statement_meaning.specs.Answers.{Files};
