@@ -6,7 +6,6 @@ ghost use Rattle.clap.specs.declared.error.kind.ErrorKind.TheVariants.{OutOfMemo
 ghost use Rattle.run_meaning.specs.declared.words.wanted.Wanted.TheVariants.{Misworded};
 ghost use Rattle.run_meaning.specs.words.Requests.{command, numbered, one_of_both, request_of};
 
-use crate::words::wanted::Wanted;
 use clap::builder::ValueParser;
 use clap::error::ErrorKind;
 use clap::{Arg, ArgMatches, Command, Error};
