@@ -6,8 +6,7 @@ ghost use Rattle.query_texts.specs.clauses.Frames.{called_in};
 ghost use Rattle.query_texts.specs.clauses.ClauseTexts.{beside_back, beside_front, beside_text, condition_text, expr_items, item_text, never_text, nevers_text, projected_text, projecting_text, where_text};
 ghost use Rattle.query_texts.specs.clauses.Unused.{items_use, spare, used_in};
 
-use crate::clauses::frame::Frame;
-use crate::clauses::lists::{push_as, push_comma, push_unread};
+use crate::clauses::lists::{push_as, push_comma};
 use bag_algebra::{Expr, Item};
 use expression_texts::{Draft, push_expr, uses};
 use perm_values::{Bytes, Copyable, Kind, List, NoMemory};
