@@ -6,10 +6,6 @@ ghost use Rattle.clap.specs.declared.error.kind.ErrorKind.TheVariants.{OutOfMemo
 ghost use Rattle.perm_engine.specs.declared.meaning.words.wanted.Wanted.TheVariants.{Misworded};
 ghost use Rattle.perm_engine.specs.meaning.words.Requests.{command, numbered, one_of_both, request_of};
 
-<<<<<<< HEAD:crates/perm_engine/src/meaning/words.rt
-use crate::meaning::words::wanted::Wanted;
-=======
->>>>>>> 1d48c9f7ae7ac6be5b8de226ee9209bbb8463751:crates/run_meaning/src/words.rt
 use clap::builder::ValueParser;
 use clap::error::ErrorKind;
 use clap::{Arg, ArgMatches, Command, Error};
