@@ -3,4 +3,3 @@ pub mod Nesting
 pub mod Spells
 pub mod Texts
 pub mod built
-pub mod queries

@@ -5,7 +5,6 @@ mod expression;
 mod laws;
 mod nesting;
 mod parser;
-mod queries;
 mod recursion;
 mod statements;
 mod syntax_error;

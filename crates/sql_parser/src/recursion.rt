@@ -5,9 +5,9 @@ ghost use Rattle.sql_tree.specs.grammar.Cursors as spec;
 ghost use Rattle.sql_tree.specs.grammar.Symbols as n;
 
 use crate::expression::expression;
-use crate::queries::Queries;
 use perm_values::Boxed;
 use sql_tree::{Cursor, ExprTree, Nest, QueryTree, Unread};
+use sql_queries::Queries;
 
 #[cycle(grammar)]
 pub(crate) fn expr(cursor: &mut Cursor<'_>) -> Result<Boxed<ExprTree>, Unread>

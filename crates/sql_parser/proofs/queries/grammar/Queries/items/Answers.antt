@@ -1,8 +1,0 @@
-use Rattle.std.proofs.Common.{rules}
-use Rattle.sql_tree.specs.grammar.Cursors.{reading}
-use Rattle.sql_tree.specs.grammar.Symbols as n
-use Rattle.sql_tree.proofs.Steps.{reading-keeps}
-use Rattle.sql_parser.proofs.queries.grammar.Queries.items.Goals as goal
-
-pub returns-clause-given : goal.returns-clause-given
-returns-clause-given g c = c.list_of.ensures.given (reading n.Item) (record { reads = λ old new r met. search rules; fewer = reading-keeps n.Item })

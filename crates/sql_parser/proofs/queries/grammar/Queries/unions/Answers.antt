@@ -1,8 +1,0 @@
-use Rattle.std.proofs.Common.{refl, rules}
-use Rattle.sql_tree.specs.grammar.Cursors.{reading}
-use Rattle.sql_tree.specs.grammar.Symbols as n
-use Rattle.sql_tree.proofs.Steps.{reading-takes}
-use Rattle.sql_parser.proofs.queries.grammar.Queries.unions.Goals as goal
-
-pub returns-clause-given : goal.returns-clause-given
-returns-clause-given g c = c.all_items.ensures.given (reading n.UnionStep) (record { reads = λ old new r met. search rules; fewer = reading-takes n.UnionStep refl })
