@@ -1,2 +1,1 @@
 pub mod built
-pub mod primaries

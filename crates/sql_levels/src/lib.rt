@@ -3,12 +3,10 @@
 
 mod connectives;
 mod predicates;
-mod primaries;
 mod sums;
 mod tail;
 mod words;
 
 pub use connectives::Connectives;
 pub use predicates::Predicates;
-pub use primaries::{LITERALS, Primaries, kind_of, literal};
 pub use sums::Sums;

@@ -22,7 +22,7 @@ use Rattle.sql_levels.specs.built.Tails as tails
 use Rattle.sql_levels.proofs.Comparing.{ranged_is}
 use Rattle.sql_levels.proofs.Connecting.{both_is, expr_is}
 use Rattle.sql_levels.proofs.Counts.{sign_is, negated_is}
-use Rattle.sql_levels.proofs.PrimariesRead.{primary_is}
+use Rattle.sql_primaries.proofs.PrimariesRead.{primary_is}
 
 -- the tokens are read as this expression by a symbol of one part
 module _ (tokens rest : List Token) (x : ExprTree) where

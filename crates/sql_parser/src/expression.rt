@@ -9,7 +9,8 @@ ghost use Rattle.sql_tree.specs.grammar.Tables.{begins};
 ghost use Rattle.sql_parser.specs.built.Literals.{ends};
 
 use perm_values::Boxed;
-use sql_levels::{Connectives, LITERALS, Predicates, Primaries, Sums, literal};
+use sql_levels::{Connectives, Predicates, Sums};
+use sql_primaries::{LITERALS, Primaries, literal};
 use sql_tree::{Cursor, ExprTree, Nest, QueryTree, Sort, Unread, node};
 
 /// What ends an expression in a list or in parentheses.

@@ -6,8 +6,8 @@ ghost use Rattle.sql_tree.specs.grammar.Symbols as n;
 
 use crate::expression::expression;
 use perm_values::Boxed;
-use sql_tree::{Cursor, ExprTree, Nest, QueryTree, Unread};
 use sql_queries::Queries;
+use sql_tree::{Cursor, ExprTree, Nest, QueryTree, Unread};
 
 #[cycle(grammar)]
 pub(crate) fn expr(cursor: &mut Cursor<'_>) -> Result<Boxed<ExprTree>, Unread>

@@ -10,8 +10,8 @@ ghost use Rattle.sql_tree.specs.declared.grammar.sort.Sort.TheVariants as s;
 
 use crate::recursion::{condition, expr, query};
 use perm_values::{Boxed, Chars, Kind, List, NoMemory};
-use sql_levels::kind_of;
 use sql_lexer::Token;
+use sql_primaries::kind_of;
 use sql_tree::{
     ColumnDef, Cursor, ExprTree, Script, Sort, Statement, StatementBody, Unread, ValuesRow, list_of,
 };

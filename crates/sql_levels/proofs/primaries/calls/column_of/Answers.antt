@@ -1,9 +1,0 @@
-use Rattle.std.proofs.Common.{arith}
-use Rattle.sql_levels.proofs.PrimariesRead.{reference_is}
-use Rattle.sql_levels.proofs.primaries.calls.column_of.Goals as goal
-
-pub returns-in_err-token-clause-given : goal.returns-in_err-token-clause-given
-returns-in_err-token-clause-given c = grind (arith, reference_is)
-
-pub returns-clause-given : goal.returns-clause-given
-returns-clause-given c = grind (arith, reference_is)

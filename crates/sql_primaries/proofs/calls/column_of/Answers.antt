@@ -1,0 +1,9 @@
+use Rattle.std.proofs.Common.{arith}
+use Rattle.sql_primaries.proofs.PrimariesRead.{reference_is}
+use Rattle.sql_primaries.proofs.calls.column_of.Goals as goal
+
+pub returns-in_err-token-clause-given : goal.returns-in_err-token-clause-given
+returns-in_err-token-clause-given c = grind (arith, reference_is)
+
+pub returns-clause-given : goal.returns-clause-given
+returns-clause-given c = grind (arith, reference_is)

@@ -1,0 +1,9 @@
+use Rattle.std.proofs.Common.{arith}
+use Rattle.sql_primaries.proofs.Pairs.{null_if_of_is}
+use Rattle.sql_primaries.proofs.grammar.Primaries.null_if_of.Goals as goal
+
+pub returns-in_err-past-clause-given : goal.returns-in_err-past-clause-given
+returns-in_err-past-clause-given g c = grind (arith, null_if_of_is)
+
+pub returns-clause-given : goal.returns-clause-given
+returns-clause-given g c = grind (arith, null_if_of_is)
