@@ -22,7 +22,7 @@ use Rattle.bag_algebra.specs.declared.expr.Item.{Item}
 use Rattle.bag_algebra.specs.declared.query.Aggr.{Aggr}
 use Rattle.bag_algebra.specs.declared.query.Query.{Query, Row_of-Sublink, more_of-Sublink, end_of-Sublink}
 use Rattle.bag_algebra.specs.declared.query.Query.TheVariants.{Table, Single}
-use Rattle.query_facts.specs.reach.Reach.{column_reach, expr_reach, parts_reach, steps_reach, arms_reach, option_reach, items_reach, aggregates_reach, query_reach, subs_reach, reads_own_row}
+use Rattle.query_facts.specs.reached.Reach.{column_reach, expr_reach, parts_reach, steps_reach, arms_reach, option_reach, items_reach, aggregates_reach, query_reach, subs_reach, reads_own_row}
 
 -- what is within a number where the greater of two is
 left : (a b n : ℕ) → max a b ≤ n → a ≤ n

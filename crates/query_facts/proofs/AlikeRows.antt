@@ -22,8 +22,8 @@ use Rattle.bag_algebra.specs.declared.expr.Item.{Item}
 use Rattle.bag_algebra.specs.declared.query.Aggr.{Aggr}
 use Rattle.bag_algebra.specs.declared.query.Query.{Query, Row_of-Sublink, more_of-Sublink, end_of-Sublink}
 use Rattle.bag_algebra.specs.declared.query.Query.TheVariants.{Table, Single}
-use Rattle.query_facts.specs.reach.reads.Columns.{column_at, expr_columns, parts_columns, steps_columns, arms_columns, option_columns, items_columns, aggregates_columns, one_nearer, behind, columns_of, subs_columns, Agree, is_nearest, is_among, AreNearest}
-use Rattle.query_facts.specs.declared.reach.reads.queries.Column.{Column}
+use Rattle.query_facts.specs.reached.reads.Columns.{column_at, expr_columns, parts_columns, steps_columns, arms_columns, option_columns, items_columns, aggregates_columns, one_nearer, behind, columns_of, subs_columns, Agree, is_nearest, is_among, AreNearest}
+use Rattle.query_facts.specs.declared.reached.reads.queries.Column.{Column}
 
 -- what holds of all of two lists
 left : {X : Type 0} (P : X → Type 0) (xs ys : List X) → All P (xs ++ ys) → All P xs

@@ -5,8 +5,8 @@ use Rattle.std.specs.List.{flat_map}
 use Rattle.std.proofs.lemmas.Grind.{flat_map-append}
 use Rattle.std.proofs.lemmas.List.{take_all, take_more}
 use Rattle.perm_values.specs.declared.no_memory.NoMemory.{NoMemory}
-use Rattle.query_facts.specs.reach.reads.Columns.{behind}
-use Rattle.query_facts.specs.declared.reach.reads.queries.Column.{Column}
+use Rattle.query_facts.specs.reached.reads.Columns.{behind}
+use Rattle.query_facts.specs.declared.reached.reads.queries.Column.{Column}
 
 -- a loop that goes up to an item has put the columns of the items before it behind those that were there
 abbrev pub SoFar : {X : Type 0} → (X → List Column) → List X → List Column → ℕ → List Column → Type 0

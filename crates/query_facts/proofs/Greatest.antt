@@ -4,8 +4,8 @@ use Rattle.std.specs.Prelude.{IfNone}
 use Rattle.std.proofs.lemmas.Bool.{ltb-false}
 use Rattle.std.proofs.lemmas.Bool.Decides.{nat_tests}
 use Rattle.std.proofs.lemmas.List.{take_all, take_more}
-use Rattle.query_facts.specs.reach.InUsize.{in_usize}
-use Rattle.query_facts.specs.reach.Reach.{greatest}
+use Rattle.query_facts.specs.reached.InUsize.{in_usize}
+use Rattle.query_facts.specs.reached.Reach.{greatest}
 
 greatest-behind : {X : Type 0} (f : X → ℕ) (xs : List X) (x : X) → greatest f (xs ++ x ∷ []) ≡ max (greatest f xs) (f x)
 greatest-behind f [] x = omega arith

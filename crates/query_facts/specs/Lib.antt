@@ -1,2 +1,2 @@
-pub mod reach
+pub mod reached
 pub mod monotone

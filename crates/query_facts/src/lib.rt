@@ -2,11 +2,11 @@
 #![tactic(auto, using(bag_algebra::proofs::Smaller::smaller))]
 
 mod monotone;
-mod reach;
+mod reached;
 mod spines;
 
 pub use monotone::is_monotone;
-pub use reach::{
+pub use reached::{
     a_query_means_the_same_where_the_columns_that_it_reads_are_the_same,
     a_query_reads_no_column_beyond_its_reach,
     an_expression_has_one_value_where_the_columns_that_it_reads_are_the_same,

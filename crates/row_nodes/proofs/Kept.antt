@@ -23,9 +23,9 @@ use Rattle.bag_algebra.specs.declared.query.Query.TheVariants.{Table, Single, Fi
 use Rattle.bag_algebra.specs.declared.query.Sublink.{Sublink}
 use Rattle.row_joins.specs.Hashed.{on_pair, met_rows}
 use Rattle.row_joins.proofs.Hashing.{all_kept, good_on}
-use Rattle.query_facts.specs.reach.Reach.{reach_of}
+use Rattle.query_facts.specs.reached.Reach.{reach_of}
 use Rattle.query_facts.proofs.Alike.{Alike, denote-alike}
-use Rattle.query_facts.specs.reach.reads.Columns.{AreNearest, columns_of}
+use Rattle.query_facts.specs.reached.reads.Columns.{AreNearest, columns_of}
 use Rattle.query_facts.proofs.AlikeRows.{picked-alike}
 use Rattle.row_nodes.specs.memory.Memory.{Remembered, Learns, found, found_under, remembered}
 use Rattle.row_nodes.specs.Keeping.{can_key, input_columns, keeps_input, keyed_at, Keeps}

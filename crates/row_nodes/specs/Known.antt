@@ -17,7 +17,7 @@ use Rattle.bag_algebra.specs.declared.query.Query.TheVariants.{Table, Single}
 use Rattle.bag_algebra.specs.declared.query.SubKind.{SubKind}
 use Rattle.bag_algebra.specs.declared.query.SubKind.TheVariants.{Exists, Any, All, Scalar}
 use Rattle.bag_algebra.specs.declared.query.Sublink.{Sublink}
-use Rattle.query_facts.specs.reach.reads.Columns.{AreNearest, columns_of}
+use Rattle.query_facts.specs.reached.reads.Columns.{AreNearest, columns_of}
 use Rattle.row_values.specs.Answers.{Refuses}
 use Rattle.row_values.specs.declared.error.ExecError.{ExecError}
 use Rattle.row_nodes.specs.memory.Memory.{Remembered, found, found_under, remembered}

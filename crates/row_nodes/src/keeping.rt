@@ -2,7 +2,7 @@
 ghost use Rattle.std.specs.Prelude.{◌≡◌, ◌↔◌, ◌^◌, ◌≤◌, [], ℕ, Some, IfNone, IsTrue};
 ghost use Rattle.bag_algebra.specs.FaultFree.{faultless};
 ghost use Rattle.bag_algebra.specs.declared.query.Query.{Query as SeenQuery};
-ghost use Rattle.query_facts.specs.reach.Reach.{reach_of};
+ghost use Rattle.query_facts.specs.reached.Reach.{reach_of};
 ghost use Rattle.row_nodes.specs.Keeping.{IsBelow, KeptOf, Leads, better, input_columns, input_depth, is_kept, keeps_input, kept_reach};
 
 use bag_algebra::{Expr, Query, Sublink, faultless};

@@ -13,7 +13,7 @@ use Rattle.bag_algebra.specs.declared.expr.Expr.{Expr, more_of-Expr, end_of-Expr
 use Rattle.bag_algebra.specs.declared.expr.Expr.TheVariants.{Sub}
 use Rattle.bag_algebra.specs.declared.query.Query.{Query, more_of-Sublink, end_of-Sublink}
 use Rattle.bag_algebra.specs.declared.query.SubKind.TheVariants.{Exists}
-use Rattle.query_facts.specs.reach.Reach.{reach_of}
+use Rattle.query_facts.specs.reached.Reach.{reach_of}
 use Rattle.row_joins.specs.Equated.{equated, pair_of}
 use Rattle.row_joins.specs.Guards.{guard_holds, keyed_columns}
 use Rattle.row_joins.specs.Hashed.{met_rows, on_pair}

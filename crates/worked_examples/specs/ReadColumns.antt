@@ -13,7 +13,7 @@ use Rattle.bag_algebra.specs.declared.query.Label.TheVariants.{Relation}
 use Rattle.bag_algebra.specs.declared.query.Query.{Query, more_of-Sublink, end_of-Sublink}
 use Rattle.bag_algebra.specs.declared.query.Query.TheBlock.{shape-the_row-Query-0, hidden-the_row-Query-0, shape-the_row-Sublink-1, hidden-the_row-Sublink-1}
 use Rattle.bag_algebra.specs.declared.query.SubKind.TheVariants.{Exists}
-use Rattle.query_facts.specs.reach.Reach.{reach_of}
+use Rattle.query_facts.specs.reached.Reach.{reach_of}
 use Rattle.rewrite_sublink.specs.Candidates.{matching, or_nulls}
 use Rattle.worked_examples.specs.RewrittenRows.{below, table, twice}
 

@@ -8,7 +8,7 @@ use Rattle.bag_algebra.specs.declared.query.AggFn.TheVariants.{Sum}
 use Rattle.bag_algebra.specs.declared.query.JoinKind.TheVariants.{Inner}
 use Rattle.bag_algebra.specs.declared.query.Query.{Query, more_of-Sublink, end_of-Sublink}
 use Rattle.bag_algebra.specs.declared.query.SubKind.TheVariants.{Exists}
-use Rattle.query_facts.specs.reach.reads.Columns.{column_at, columns_of}
+use Rattle.query_facts.specs.reached.reads.Columns.{column_at, columns_of}
 use Rattle.worked_examples.specs.RewrittenRows.{table}
 
 -- the rows of a table where the column at this level and place is true

@@ -19,7 +19,7 @@ use Rattle.bag_algebra.specs.declared.query.Query.{Query, Row_of-Sublink, more_o
 use Rattle.bag_algebra.specs.declared.query.Query.TheVariants.{Table, Single}
 use Rattle.bag_algebra.specs.declared.query.SubKind.{SubKind}
 use Rattle.bag_algebra.specs.declared.query.SubKind.TheVariants as sub
-use Rattle.query_facts.specs.reach.Reach.{greatest, column_reach, expr_reach, parts_reach, steps_reach, arms_reach, option_reach, items_reach, aggregates_reach, query_reach, subs_reach}
+use Rattle.query_facts.specs.reached.Reach.{greatest, column_reach, expr_reach, parts_reach, steps_reach, arms_reach, option_reach, items_reach, aggregates_reach, query_reach, subs_reach}
 
 -- what is within a number where the greater of two is
 left : (a b n : ℕ) → max a b ≤ n → a ≤ n

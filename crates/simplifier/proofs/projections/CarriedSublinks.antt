@@ -25,7 +25,7 @@ use Rattle.bag_algebra.specs.declared.query.SubKind.{SubKind}
 use Rattle.bag_algebra.specs.declared.query.SubKind.TheVariants as sub
 use Rattle.bag_algebra.specs.declared.query.Sublink.{Sublink}
 use Rattle.query_facts.proofs.Alike.{Alike, denote-alike}
-use Rattle.query_facts.specs.reach.Reach.{reach_of}
+use Rattle.query_facts.specs.reached.Reach.{reach_of}
 use Rattle.simpler_laws.proofs.TestedQueries.{by}
 use Rattle.simplifier.proofs.projections.AlikeForms.{AlikeKinds, formed-alike}
 use Rattle.simplifier.specs.projections.Carried.{AllCarried, IsCarried, Leads, TestedMoved, all_reach}

@@ -3,7 +3,7 @@ use Rattle.std.specs.Prelude.{◌≡◌, ⊤, ℕ, ◌<◌, Bool, true, ◌&&◌
 use Rattle.bag_algebra.specs.declared.expr.Expr.{Expr}
 use Rattle.bag_algebra.specs.declared.query.Sublink.{Sublink}
 use Rattle.contribution.specs.MovedColumns.{Along, IsMoved}
-use Rattle.query_facts.specs.reach.Reach.{reach_of}
+use Rattle.query_facts.specs.reached.Reach.{reach_of}
 
 -- so many of the places are those of the first columns, in their order
 abbrev pub Leads : ℕ → List ℕ → Type 0

@@ -1,6 +1,0 @@
-use Rattle.query_facts.specs.reach.built.Reach.{sub_reach}
-use Rattle.query_facts.proofs.Greatest.{SoFar}
-use Rattle.query_facts.proofs.reach.columns.+query_reach.Given as goal
-
-abbrev pub invariant-subs_reach-loop-sub : goal.invariant-subs_reach-loop-sub
-invariant-subs_reach-loop-sub l = SoFar sub_reach l.subs l.level l.sub-index l.reach

@@ -1,7 +1,0 @@
-use Rattle.query_facts.specs.reach.reads.Columns.{one_nearer}
-use Rattle.query_facts.specs.declared.reach.reads.queries.Column.{Column}
-use Rattle.query_facts.proofs.Gathered.{SoFar}
-use Rattle.query_facts.proofs.reach.reads.queries.with_behind.Given as goal
-
-abbrev pub invariant-loop-column : goal.invariant-loop-column
-invariant-loop-column l = SoFar (λ (column : Column). one_nearer column.level column.place) l.columns l.fn.found l.column-index l.more
