@@ -1,7 +1,7 @@
 //! What a command line asks for, which script the bytes of a file are, what a run of it is, and how it ends: what is written then,
 //! and a status; the script that is made from a number; the steps of a run, and laws of runs.
 
-mod generated;
+mod generation;
 mod headline;
 mod laws;
 mod sameness;
@@ -11,7 +11,7 @@ mod steps;
 mod stopping;
 mod words;
 
-pub use generated::{a_generated_text_is_a_script, generated};
+pub use generation::{a_generated_text_is_a_script, generated};
 pub use headline::{
     a_query_has_the_word_or_not, a_query_is_refused_or_asks, a_run_is_the_course_of_its_statements,
     every_run_is_told_by_the_headline, the_contents_of_a_run_are_sound,

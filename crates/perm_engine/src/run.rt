@@ -18,7 +18,7 @@
 ghost use Rattle.std.specs.Prelude.{◌≡◌, ◌⊎◌, true, false};
 ghost use Rattle.perm_engine.specs.meaning.words.Requests.{request_of};
 ghost use Rattle.perm_engine.specs.declared.meaning.words.wanted.Wanted.TheVariants.{Misworded};
-ghost use Rattle.perm_engine.specs.meaning.generated.Generated.{generated};
+ghost use Rattle.perm_engine.specs.meaning.generation.Generated.{generated};
 ghost use Rattle.perm_engine.specs.meaning.headline.Headline.{IsTold};
 ghost use Rattle.perm_catalog.specs.Changes.{nothing_held};
 ghost use Rattle.perm_io.specs.Counts.{HasRisen};

@@ -3,7 +3,7 @@ use Rattle.std.proofs.Common.{◌≡◌, ◌∙◌, ℕ, false, List, length, Op
 use Rattle.perm_engine.specs.meaning.words.Requests.{request_of}
 use Rattle.perm_engine.specs.declared.meaning.words.wanted.Wanted.{Wanted}
 use Rattle.perm_engine.specs.declared.meaning.words.wanted.Wanted.TheVariants.{Script as Named, Generated, Misworded}
-use Rattle.perm_engine.specs.meaning.generated.Generated.{generated}
+use Rattle.perm_engine.specs.meaning.generation.Generated.{generated}
 use Rattle.perm_io.specs.Counts.{HasRisen}
 use Rattle.perm_io.specs.Found.{Found, CanBe}
 use Rattle.perm_io.specs.declared.named_file.NamedFile.{NamedFile}

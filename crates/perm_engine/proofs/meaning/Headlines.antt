@@ -32,7 +32,7 @@ use Rattle.perm_engine.specs.meaning.Ends.{EndsOne, RunsOver, Written}
 use Rattle.perm_engine.specs.meaning.words.Requests.{request_of}
 use Rattle.perm_engine.specs.declared.meaning.words.wanted.Wanted.{Wanted}
 use Rattle.perm_engine.specs.declared.meaning.words.wanted.Wanted.TheVariants.{Script as Named, Generated, Misworded}
-use Rattle.perm_engine.specs.meaning.generated.Generated.{generated}
+use Rattle.perm_engine.specs.meaning.generation.Generated.{generated}
 use Rattle.perm_engine.specs.meaning.Run.{Ran, IsRefusedWhole, Runs, RunsFile, RunsFrom, RunsNamed, RunsScript, RunsWanted, after_files, ended}
 use Rattle.perm_engine.specs.meaning.Scripts.{IsScriptOf, IsMisspelled}
 use Rattle.perm_engine.specs.meaning.Stops.{Stop, ToTheEnd, Misused, NoFile, LongFile, FailedFile, NoScript, At, IsFirst, script_limit}

@@ -3,7 +3,7 @@ use Rattle.std.proofs.Common.{◌≡◌, ◌≢◌, ◌∙◌, ℕ, ◌+◌, ◌
 use Rattle.perm_engine.specs.meaning.words.Requests.{request_of}
 use Rattle.perm_engine.specs.declared.meaning.words.wanted.Wanted.{Wanted}
 use Rattle.perm_engine.specs.declared.meaning.words.wanted.Wanted.TheVariants.{Script as OfFile, Generated, Misworded}
-use Rattle.perm_engine.specs.meaning.generated.Generated.{generated}
+use Rattle.perm_engine.specs.meaning.generation.Generated.{generated}
 use Rattle.null_logic.specs.declared.run_fault.RunFault.{RunFault}
 use Rattle.bag_algebra.specs.Outcome.{Faults, has}
 use Rattle.bag_algebra.specs.declared.query.Answer.{Answer}

@@ -6,7 +6,7 @@ use Rattle.bag_algebra.specs.declared.query.Answer.{Answer}
 use Rattle.perm_engine.specs.meaning.words.Requests.{request_of}
 use Rattle.perm_engine.specs.declared.meaning.words.wanted.Wanted.{Wanted}
 use Rattle.perm_engine.specs.declared.meaning.words.wanted.Wanted.TheVariants.{Script as Named, Generated, Misworded}
-use Rattle.perm_engine.specs.meaning.generated.Generated.{generated}
+use Rattle.perm_engine.specs.meaning.generation.Generated.{generated}
 use Rattle.perm_catalog.specs.Changes.{nothing_held}
 use Rattle.perm_catalog.specs.Contents.{Contents}
 use Rattle.perm_io.specs.Found.{Found, Read, Missing, TooLong, Failed, CanBe}

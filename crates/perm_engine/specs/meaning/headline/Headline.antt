@@ -31,7 +31,7 @@ use Rattle.statement_meaning.specs.declared.refusal.StepRefusal.{StepRefusal}
 use Rattle.statement_meaning.specs.declared.refusal.StepRefusal.TheVariants as refusal
 use Rattle.perm_engine.specs.meaning.words.Requests.{request_of}
 use Rattle.perm_engine.specs.declared.meaning.words.wanted.Wanted.TheVariants.{Script as Named, Generated, Misworded}
-use Rattle.perm_engine.specs.meaning.generated.Generated.{generated as generated_text}
+use Rattle.perm_engine.specs.meaning.generation.Generated.{generated as generated_text}
 use Rattle.perm_engine.specs.meaning.Ends.{Caused, RunsOver}
 use Rattle.perm_engine.specs.meaning.Run.{Ran, IsRefusedWhole}
 use Rattle.perm_engine.specs.meaning.Scripts.{IsScriptOf, IsMisspelled}

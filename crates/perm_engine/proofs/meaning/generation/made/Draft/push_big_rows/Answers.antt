@@ -1,5 +1,5 @@
-use Rattle.perm_engine.proofs.meaning.generated.Rows.{next_row}
-use Rattle.perm_engine.proofs.meaning.generated.made.Draft.push_big_rows.Goals as goal
+use Rattle.perm_engine.proofs.meaning.generation.Rows.{next_row}
+use Rattle.perm_engine.proofs.meaning.generation.made.Draft.push_big_rows.Goals as goal
 
 pub loop-place-preserved : goal.loop-place-preserved
 loop-place-preserved c =

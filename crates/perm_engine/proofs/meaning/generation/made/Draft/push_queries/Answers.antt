@@ -1,7 +1,7 @@
 use Rattle.std.proofs.Common.{◌∙◌, ◌++◌, ap, List, ℕ}
 use Rattle.std.specs.Prelude.{codes}
-use Rattle.perm_engine.proofs.meaning.generated.Rows.{five_pieces}
-use Rattle.perm_engine.proofs.meaning.generated.made.Draft.push_queries.Goals as goal
+use Rattle.perm_engine.proofs.meaning.generation.Rows.{five_pieces}
+use Rattle.perm_engine.proofs.meaning.generation.made.Draft.push_queries.Goals as goal
 
 abbrev a : List ℕ
 a = codes "select count ( * ) , sum ( k ) from big ; "

@@ -9,10 +9,10 @@ use Rattle.sql_parser.specs.Spells.{Spells}
 use Rattle.sql_tree.specs.declared.statement.Script.{Script}
 use Rattle.tree_texts.specs.plans.Plans.{tokens_of, value}
 use Rattle.tree_texts.proofs.Planned.{plan_spelled, text_is_read}
-use Rattle.perm_engine.specs.meaning.generated.Generated.{generated}
-use Rattle.perm_engine.proofs.meaning.generated.Nested.{script_nests}
-use Rattle.perm_engine.proofs.meaning.generated.ScriptPlan.{script, script_text}
-use Rattle.perm_engine.proofs.meaning.generated.Spelling.{generated_utf8, script_told}
+use Rattle.perm_engine.specs.meaning.generation.Generated.{generated}
+use Rattle.perm_engine.proofs.meaning.generation.Nested.{script_nests}
+use Rattle.perm_engine.proofs.meaning.generation.ScriptPlan.{script, script_text}
+use Rattle.perm_engine.proofs.meaning.generation.Spelling.{generated_utf8, script_told}
 
 pub is_a_script : (rows : ℕ) → 1 ≤ rows → rows < 2 ^ 63 → (tokens : List Token) × (tree : Script) × Lexes (generated rows) tokens × (too_deep tokens ≡ None) × Spells tokens tree
 is_a_script zero least fits = absurd (omega (arith, least))

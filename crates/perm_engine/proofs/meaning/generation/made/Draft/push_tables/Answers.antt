@@ -1,7 +1,7 @@
 use Rattle.std.proofs.Common.{rules, ◌∙◌, ◌++◌, ap, List, ℕ}
 use Rattle.std.specs.Prelude.{codes}
-use Rattle.perm_engine.proofs.meaning.generated.Rows.{two_pieces}
-use Rattle.perm_engine.proofs.meaning.generated.made.Draft.push_tables.Goals as goal
+use Rattle.perm_engine.proofs.meaning.generation.Rows.{two_pieces}
+use Rattle.perm_engine.proofs.meaning.generation.made.Draft.push_tables.Goals as goal
 
 pub returns : goal.returns
 returns c =

@@ -10,8 +10,8 @@ use Rattle.sql_tree.specs.declared.grammar.sort.Sort.{Sort}
 use Rattle.sql_tree.specs.declared.grammar.sort.Sort.TheVariants as s
 use Rattle.sql_parser.specs.Nesting.{after, first_beyond, too_deep}
 use Rattle.tree_texts.specs.plans.Plans.{tokens_of}
-use Rattle.perm_engine.proofs.meaning.generated.Parts.{more_rows}
-use Rattle.perm_engine.proofs.meaning.generated.ScriptPlan.{big_at, others, script}
+use Rattle.perm_engine.proofs.meaning.generation.Parts.{more_rows}
+use Rattle.perm_engine.proofs.meaning.generation.ScriptPlan.{big_at, others, script}
 
 -- so many parentheses and CASEs are open behind a token of the sort
 abbrev parentheses_at : Sort → ℕ → ℕ
