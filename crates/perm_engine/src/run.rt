@@ -18,7 +18,7 @@
 ghost use Rattle.std.specs.Prelude.{◌≡◌, ◌⊎◌, true, false};
 ghost use Rattle.run_meaning.specs.words.Requests.{request_of};
 ghost use Rattle.run_meaning.specs.declared.words.wanted.Wanted.TheVariants.{Misworded};
-ghost use Rattle.run_meaning.specs.generated.Generated.{generated};
+ghost use Rattle.run_meaning.specs.generation.Generated.{generated};
 ghost use Rattle.run_meaning.specs.headline.Headline.{IsTold};
 ghost use Rattle.perm_catalog.specs.Changes.{nothing_held};
 ghost use Rattle.perm_io.specs.Counts.{HasRisen};

@@ -3,7 +3,7 @@ use Rattle.std.proofs.Common.{◌≡◌, ◌∙◌, ℕ, false, List, length, Op
 use Rattle.run_meaning.specs.words.Requests.{request_of}
 use Rattle.run_meaning.specs.declared.words.wanted.Wanted.{Wanted}
 use Rattle.run_meaning.specs.declared.words.wanted.Wanted.TheVariants.{Script as Named, Generated, Misworded}
-use Rattle.run_meaning.specs.generated.Generated.{generated}
+use Rattle.run_meaning.specs.generation.Generated.{generated}
 use Rattle.perm_io.specs.Counts.{HasRisen}
 use Rattle.perm_io.specs.Found.{Found, CanBe}
 use Rattle.perm_io.specs.declared.named_file.NamedFile.{NamedFile}

@@ -32,7 +32,7 @@ use Rattle.run_meaning.specs.Ends.{EndsOne, RunsOver, Written}
 use Rattle.run_meaning.specs.words.Requests.{request_of}
 use Rattle.run_meaning.specs.declared.words.wanted.Wanted.{Wanted}
 use Rattle.run_meaning.specs.declared.words.wanted.Wanted.TheVariants.{Script as Named, Generated, Misworded}
-use Rattle.run_meaning.specs.generated.Generated.{generated}
+use Rattle.run_meaning.specs.generation.Generated.{generated}
 use Rattle.run_meaning.specs.Run.{Ran, IsRefusedWhole, Runs, RunsFile, RunsFrom, RunsNamed, RunsScript, RunsWanted, after_files, ended}
 use Rattle.run_meaning.specs.Scripts.{IsScriptOf, IsMisspelled}
 use Rattle.run_meaning.specs.Stops.{Stop, ToTheEnd, Misused, NoFile, LongFile, FailedFile, NoScript, At, IsFirst, script_limit}

@@ -2,7 +2,7 @@
 use Rattle.std.proofs.Common.{◌≡◌, ◌∙◌, ℕ, ◌≤◌, ◌<◌, Bool, true, false, true≢false, List, [], ◌∷◌, Option, refl, sym, ap, subst, inl, inr, arith}
 use Rattle.run_meaning.specs.declared.words.wanted.Wanted.{Wanted}
 use Rattle.run_meaning.specs.declared.words.wanted.Wanted.TheVariants.{Script as Named, Generated, Misworded}
-use Rattle.run_meaning.specs.generated.Generated.{generated}
+use Rattle.run_meaning.specs.generation.Generated.{generated}
 use Rattle.perm_catalog.specs.Changes.{nothing_held}
 use Rattle.perm_catalog.specs.Contents.{Contents}
 use Rattle.perm_io.specs.Counts.{HasRisen}

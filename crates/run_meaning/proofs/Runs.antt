@@ -3,7 +3,7 @@ use Rattle.std.proofs.Common.{◌≡◌, ◌≢◌, ◌∙◌, ℕ, ◌+◌, ◌
 use Rattle.run_meaning.specs.words.Requests.{request_of}
 use Rattle.run_meaning.specs.declared.words.wanted.Wanted.{Wanted}
 use Rattle.run_meaning.specs.declared.words.wanted.Wanted.TheVariants.{Script as OfFile, Generated, Misworded}
-use Rattle.run_meaning.specs.generated.Generated.{generated}
+use Rattle.run_meaning.specs.generation.Generated.{generated}
 use Rattle.null_logic.specs.declared.run_fault.RunFault.{RunFault}
 use Rattle.bag_algebra.specs.Outcome.{Faults, has}
 use Rattle.bag_algebra.specs.declared.query.Answer.{Answer}

@@ -4,7 +4,7 @@ use Rattle.std.specs.Io.KnownBytes.{append_known}
 use Rattle.std.specs.List.{flat_map}
 use Rattle.run_meaning.specs.declared.words.wanted.Wanted.{Wanted}
 use Rattle.run_meaning.specs.declared.words.wanted.Wanted.TheVariants.{Script as Named, Generated, Misworded}
-use Rattle.run_meaning.specs.generated.Generated.{generated}
+use Rattle.run_meaning.specs.generation.Generated.{generated}
 use Rattle.perm_catalog.specs.Contents.{Contents}
 use Rattle.perm_io.specs.Counts.{HasRisen, next_count}
 use Rattle.perm_io.specs.Found.{Found, Read, CanBe}

@@ -7,4 +7,4 @@ pub mod Statuses
 pub mod Stops
 pub mod headline
 pub mod words
-pub mod generated
+pub mod generation

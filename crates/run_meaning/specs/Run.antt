@@ -6,7 +6,7 @@ use Rattle.bag_algebra.specs.declared.query.Answer.{Answer}
 use Rattle.run_meaning.specs.words.Requests.{request_of}
 use Rattle.run_meaning.specs.declared.words.wanted.Wanted.{Wanted}
 use Rattle.run_meaning.specs.declared.words.wanted.Wanted.TheVariants.{Script as Named, Generated, Misworded}
-use Rattle.run_meaning.specs.generated.Generated.{generated}
+use Rattle.run_meaning.specs.generation.Generated.{generated}
 use Rattle.perm_catalog.specs.Changes.{nothing_held}
 use Rattle.perm_catalog.specs.Contents.{Contents}
 use Rattle.perm_io.specs.Found.{Found, Read, Missing, TooLong, Failed, CanBe}

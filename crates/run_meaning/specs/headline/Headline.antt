@@ -31,7 +31,7 @@ use Rattle.statement_meaning.specs.declared.refusal.StepRefusal.{StepRefusal}
 use Rattle.statement_meaning.specs.declared.refusal.StepRefusal.TheVariants as refusal
 use Rattle.run_meaning.specs.words.Requests.{request_of}
 use Rattle.run_meaning.specs.declared.words.wanted.Wanted.TheVariants.{Script as Named, Generated, Misworded}
-use Rattle.run_meaning.specs.generated.Generated.{generated as generated_text}
+use Rattle.run_meaning.specs.generation.Generated.{generated as generated_text}
 use Rattle.run_meaning.specs.Ends.{Caused, RunsOver}
 use Rattle.run_meaning.specs.Run.{Ran, IsRefusedWhole}
 use Rattle.run_meaning.specs.Scripts.{IsScriptOf, IsMisspelled}

@@ -13,10 +13,10 @@ use Rattle.sql_grammar.specs.Sorts.{word_sort}
 use Rattle.sql_grammar.specs.Symbols as n
 use Rattle.sql_grammar.specs.declared.sort.Sort.TheVariants as s
 use Rattle.tree_texts.specs.plans.Plans.{Plan, a_word, as_symbol, both, one_last, one_more, present, text_of}
-use Rattle.run_meaning.specs.generated.Generated.{big_row, big_rows, comma, generated, queries, small_rows, tables}
-use Rattle.run_meaning.proofs.generated.Parts.{IsPlain, column, column_of, count_all, created, equal, from, from_joined, group_by, inserted, integers, is_in, less, more_rows, number, one_item, queried, query_as, row, select, select_where, sum_of, table, text_value, texts, traced, traced_groups, traced_where, two_items}
+use Rattle.run_meaning.specs.generation.Generated.{big_row, big_rows, comma, generated, queries, small_rows, tables}
+use Rattle.run_meaning.proofs.generation.Parts.{IsPlain, column, column_of, count_all, created, equal, from, from_joined, group_by, inserted, integers, is_in, less, more_rows, number, one_item, queried, query_as, row, select, select_where, sum_of, table, text_value, texts, traced, traced_groups, traced_where, two_items}
 use Rattle.tree_texts.specs.plans.Levels.{expression}
-use Rattle.run_meaning.proofs.generated.Rows.{line}
+use Rattle.run_meaning.proofs.generation.Rows.{line}
 
 -- ---- the names
 

@@ -1,6 +1,6 @@
 ghost use Rattle.std.specs.Prelude.{◌≡◌, ◌++◌, IfOk, OnOk};
 ghost use Rattle.std.specs.Fmt.{decimal};
-ghost use Rattle.run_meaning.specs.generated.Generated.{big_row, big_rows, comma, generated, queries, small_rows, tables};
+ghost use Rattle.run_meaning.specs.generation.Generated.{big_row, big_rows, comma, generated, queries, small_rows, tables};
 
 use perm_values::{Bytes, NoMemory};
 use std::alloc::Global;

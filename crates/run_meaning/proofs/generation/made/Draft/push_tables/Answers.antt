@@ -1,7 +1,7 @@
 use Rattle.std.proofs.Common.{rules, ◌∙◌, ◌++◌, ap, List, ℕ}
 use Rattle.std.specs.Prelude.{codes}
-use Rattle.run_meaning.proofs.generated.Rows.{two_pieces}
-use Rattle.run_meaning.proofs.generated.made.Draft.push_tables.Goals as goal
+use Rattle.run_meaning.proofs.generation.Rows.{two_pieces}
+use Rattle.run_meaning.proofs.generation.made.Draft.push_tables.Goals as goal
 
 pub returns : goal.returns
 returns c =

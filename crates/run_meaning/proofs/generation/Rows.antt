@@ -2,7 +2,7 @@
 use Rattle.std.proofs.Common.{◌≡◌, ◌∙◌, ℕ, zero, suc, ◌+◌, List, [], ◌∷◌, ◌++◌, refl, sym, ap, arith, append_assoc, append-nil}
 use Rattle.std.specs.List.{flat_map, range_with_len}
 use Rattle.std.proofs.lemmas.Grind.{flat_map-append}
-use Rattle.run_meaning.specs.generated.Generated.{big_row, big_rows, comma}
+use Rattle.run_meaning.specs.generation.Generated.{big_row, big_rows, comma}
 
 abbrev pub line : ℕ → List ℕ
 line place = comma place ++ big_row (place + 1)

@@ -9,10 +9,10 @@ use Rattle.sql_parser.specs.Spells.{Spells}
 use Rattle.sql_tree.specs.declared.statement.Script.{Script}
 use Rattle.tree_texts.specs.plans.Plans.{tokens_of, value}
 use Rattle.tree_texts.proofs.Planned.{plan_spelled, text_is_read}
-use Rattle.run_meaning.specs.generated.Generated.{generated}
-use Rattle.run_meaning.proofs.generated.Nested.{script_nests}
-use Rattle.run_meaning.proofs.generated.ScriptPlan.{script, script_text}
-use Rattle.run_meaning.proofs.generated.Spelling.{generated_utf8, script_told}
+use Rattle.run_meaning.specs.generation.Generated.{generated}
+use Rattle.run_meaning.proofs.generation.Nested.{script_nests}
+use Rattle.run_meaning.proofs.generation.ScriptPlan.{script, script_text}
+use Rattle.run_meaning.proofs.generation.Spelling.{generated_utf8, script_told}
 
 pub is_a_script : (rows : ℕ) → 1 ≤ rows → rows < 2 ^ 63 → (tokens : List Token) × (tree : Script) × Lexes (generated rows) tokens × (too_deep tokens ≡ None) × Spells tokens tree
 is_a_script zero least fits = absurd (omega (arith, least))

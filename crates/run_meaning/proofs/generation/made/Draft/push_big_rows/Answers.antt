@@ -1,5 +1,5 @@
-use Rattle.run_meaning.proofs.generated.Rows.{next_row}
-use Rattle.run_meaning.proofs.generated.made.Draft.push_big_rows.Goals as goal
+use Rattle.run_meaning.proofs.generation.Rows.{next_row}
+use Rattle.run_meaning.proofs.generation.made.Draft.push_big_rows.Goals as goal
 
 pub loop-place-preserved : goal.loop-place-preserved
 loop-place-preserved c =

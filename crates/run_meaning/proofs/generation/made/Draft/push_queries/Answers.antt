@@ -1,7 +1,7 @@
 use Rattle.std.proofs.Common.{◌∙◌, ◌++◌, ap, List, ℕ}
 use Rattle.std.specs.Prelude.{codes}
-use Rattle.run_meaning.proofs.generated.Rows.{five_pieces}
-use Rattle.run_meaning.proofs.generated.made.Draft.push_queries.Goals as goal
+use Rattle.run_meaning.proofs.generation.Rows.{five_pieces}
+use Rattle.run_meaning.proofs.generation.made.Draft.push_queries.Goals as goal
 
 abbrev a : List ℕ
 a = codes "select count ( * ) , sum ( k ) from big ; "

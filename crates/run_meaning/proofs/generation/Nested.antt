@@ -10,8 +10,8 @@ use Rattle.sql_grammar.specs.declared.sort.Sort.{Sort}
 use Rattle.sql_grammar.specs.declared.sort.Sort.TheVariants as s
 use Rattle.sql_parser.specs.Nesting.{after, first_beyond, too_deep}
 use Rattle.tree_texts.specs.plans.Plans.{tokens_of}
-use Rattle.run_meaning.proofs.generated.Parts.{more_rows}
-use Rattle.run_meaning.proofs.generated.ScriptPlan.{big_at, others, script}
+use Rattle.run_meaning.proofs.generation.Parts.{more_rows}
+use Rattle.run_meaning.proofs.generation.ScriptPlan.{big_at, others, script}
 
 -- so many parentheses and CASEs are open behind a token of the sort
 abbrev parentheses_at : Sort → ℕ → ℕ

@@ -15,10 +15,10 @@ use Rattle.sql_lexer.specs.declared.token.TokenKind.TheVariants.{Word, Quoted, N
 use Rattle.sql_grammar.specs.Grammar.{SqlRule}
 use Rattle.tree_texts.specs.plans.Plans.{Plan, Told, a_word, a_choice, a_token, before, behind, first, second, front_first, front_second, absent, present, no_more, one_more, one_last, at_start, as_symbol}
 use Rattle.tree_texts.specs.plans.Plans as plans
-use Rattle.run_meaning.specs.generated.Generated.{big_row, big_rows, comma, generated, queries, small_rows, tables}
-use Rattle.run_meaning.proofs.generated.Parts.{more_rows}
-use Rattle.run_meaning.proofs.generated.Rows.{line}
-use Rattle.run_meaning.proofs.generated.ScriptPlan.{big_at, first_table, second_table, others, script}
+use Rattle.run_meaning.specs.generation.Generated.{big_row, big_rows, comma, generated, queries, small_rows, tables}
+use Rattle.run_meaning.proofs.generation.Parts.{more_rows}
+use Rattle.run_meaning.proofs.generation.Rows.{line}
+use Rattle.run_meaning.proofs.generation.ScriptPlan.{big_at, first_table, second_table, others, script}
 
 -- ---- ASCII
 
