@@ -1,5 +1,6 @@
 -- What a node of a monotone query keeps after a deletion, of what its inputs keep: the rows that have a list without a doomed row.
 use Rattle.std.proofs.Common.{◌≡◌, ℕ, inl, inr, Bool, true, false, cond, ◌+◌, ◌&&◌, List, [], ◌++◌, map, filter, length, Option, refl, sym, ap, ◌∙◌, subst, length-append}
+use Rattle.std.proofs.lemmas.Bool.{or_from}
 use mathlib.Core.Bool.{true≢false}
 use Rattle.std.specs.List.{flat_map}
 use Rattle.perm_values.specs.Rows.{same_row}
@@ -24,7 +25,7 @@ use Rattle.query_laws.proofs.Items.{each-in}
 use Rattle.query_laws.proofs.PairedLists.{in-paired, from-paired, in-where, from-where}
 use Rattle.delete_impact.specs.vanishing.Doomed.{has_doomed}
 use Rattle.delete_impact.proofs.Below.{below-within, bad-not_below, gather-fewer, each-fewer, pairs-fewer, mapped-fewer, once-fewer, union-fewer, unpadded-fewer}
-use Rattle.delete_impact.proofs.Spared.{both_false, first_false, second_false, has_doomed-append, Spared}
+use Rattle.delete_impact.proofs.Spared.{first_false, second_false, has_doomed-append, Spared}
 
 module _ (condition : Option Expr) where
   -- each row that is left has a list without a doomed row, a row with such a list is left, and each list has an entry for each place
@@ -212,7 +213,7 @@ module _ (condition : Option Expr) where
             } in (
               a.0 ++ b.0,
               in-inner us xs t earlier a.0 b.0 a.1 b.1,
-              has_doomed-append condition ps qs a.0 b.0 (k.long m.left a.0 a.1) ∙ both_false _ _ a.2 b.2,
+              has_doomed-append condition ps qs a.0 b.0 (k.long m.left a.0 a.1) ∙ or_from _ _ a.2 b.2,
             )
 
         back-join : (rows : Bag) (t : Row) (w : Witness) → joined_rows Inner test left_width right_width vs ys ≡ Good rows → IsIn w (inner_lists us xs t) →
@@ -266,12 +267,12 @@ module _ (condition : Option Expr) where
         | inl l ↦ let a = k.there t l in (
           a.0 ++ right_blank,
           in-append_left (a.0 ++ right_blank) (map (λ w. w ++ right_blank) (ll t)) (map (λ w. left_blank ++ w) (rl t)) (in-map (λ w. w ++ right_blank) a.0 (ll t) a.1),
-          has_doomed-append condition ps qs a.0 right_blank (k.long t a.0 a.1) ∙ both_false _ _ a.2 right_clean,
+          has_doomed-append condition ps qs a.0 right_blank (k.long t a.0 a.1) ∙ or_from _ _ a.2 right_clean,
         )
         | inr m ↦ let b = j.there t m in (
           left_blank ++ b.0,
           in-append_right (left_blank ++ b.0) (map (λ w. w ++ right_blank) (ll t)) (map (λ w. left_blank ++ w) (rl t)) (in-map (λ w. left_blank ++ w) b.0 (rl t) b.1),
-          has_doomed-append condition ps qs left_blank b.0 left_long ∙ both_false _ _ left_clean b.2,
+          has_doomed-append condition ps qs left_blank b.0 left_long ∙ or_from _ _ left_clean b.2,
         )
       ]
 

@@ -37,10 +37,6 @@ pub rewrites_without_places : (q : Query) (result : Result Query NoMemory) → h
 rewrites_without_places q result none given =
     where_made (λ p. StandsClosed q p) (λ p. RewritesClosed q p) result (λ p s. kept-without_places q p s (no_place (shape q) none)) given
 
-pub none_left : {X : Type 0} (xs : List X) → length xs ≡ 0 → xs ≡ []
-none_left [] e = refl
-none_left (x ∷ xs) e = absurd (omega (arith, e))
-
 pub is_some-length : (places : List Place) → (nat_lt 0 (length places)) ≡ is_some_place places
 is_some-length [] = refl
 is_some-length (place ∷ places) = grind (arith, nat_tests)

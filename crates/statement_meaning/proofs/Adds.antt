@@ -1,5 +1,6 @@
 -- What a statement adds that breaks no rule: columns of a table, and values of the kinds of their columns.
 use Rattle.std.proofs.Common.{◌≡◌, ◌≢◌, ◌∙◌, ℕ, suc, Bool, true, false, cond, not, nat_eq, List, [], ◌∷◌, length, Option, Some, None, IfSome, refl, sym, ap, subst, arith}
+use Rattle.std.proofs.lemmas.Bool.{not-false}
 use Rattle.std.proofs.lemmas.List.Elements.{All-head, All-tail, All-map, All-weaker, All-contains_itself}
 use Rattle.std.specs.Cmp.Lexicographic.{pointwise, nat_list_eq_equiv}
 use Rattle.std.specs.List.{All, AllByRecursion, Contains, IsDistinct, flat_map, list_any}
@@ -37,7 +38,7 @@ use Rattle.name_meaning.specs.laws.Formed.{IsAnswer, IsFormedExpr}
 use Rattle.name_meaning.specs.laws.Standing.{StandAt, AggregatesStand}
 use Rattle.name_meaning.proofs.TreeLaws.{expr-formed, query-answer}
 use Rattle.name_meaning.proofs.Named.{view-reads}
-use Rattle.statement_meaning.proofs.Ready.{names-whole, sound-answer, unbroken, not-false, left-false, right-false}
+use Rattle.statement_meaning.proofs.Ready.{names-whole, sound-answer, unbroken, left-false, right-false}
 use Rattle.statement_meaning.proofs.Stored.{answer-adds}
 use Rattle.statement_meaning.specs.laws.Sounder.{AddsSoundly, HaveKinds, RowsHaveKinds}
 use Rattle.name_meaning.specs.declared.rule.Rule.TheVariants as rule

@@ -1,5 +1,6 @@
 -- A statement that breaks no rule names what is there, and its query can run.
 use Rattle.std.proofs.Common.{◌≡◌, ◌∙◌, ℕ, suc, Bool, true, false, cond, not, ◌||◌, List, [], ◌∷◌, ◌++◌, length, Option, Some, None, IsSome, refl, sym, ap, subst}
+use Rattle.std.proofs.lemmas.Bool.{not-false}
 use Rattle.std.proofs.lemmas.List.Elements.{All-contains}
 use Rattle.std.specs.Option.{option_map_or}
 use Rattle.std.specs.Prelude.{is_none, is_some}
@@ -45,10 +46,6 @@ names-whole c statement = chosen (name_breaks c statement.body) (limit_breaks c 
 pub unbroken : (is_broken : Bool) (which : Rule) (at : ℕ) → broken_if is_broken which at ≡ [] → is_broken ≡ false
 unbroken true which at e = absurd (cc e)
 unbroken false which at e = refl
-
-pub not-false : (b : Bool) → not b ≡ false → b ≡ true
-not-false true e = refl
-not-false false e = absurd (cc e)
 
 pub left-false : (a b : Bool) → (a || b) ≡ false → a ≡ false
 left-false true b h = absurd (cc h)

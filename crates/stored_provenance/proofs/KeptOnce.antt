@@ -1,6 +1,7 @@
 -- Tables kept one after another, where they aren't kept yet, are kept once each, where they are read first.
 use mathlib.Core.Bool.{true≢false}
 use Rattle.std.proofs.Common.{◌≡◌, ◌⊎◌, inl, inr, ℕ, Bool, true, false, not, ◌||◌, cond, List, [], ◌∷◌, ◌++◌, filter, Option, Some, None, append-nil, append_assoc, refl, sym, ap, ◌∙◌, arith, nat_eq}
+use Rattle.std.proofs.lemmas.Bool.{not-true, not-false}
 use Rattle.std.proofs.lemmas.Bool.Decides.{nat_tests}
 use Rattle.std.specs.List.{flat_map, list_any}
 use Rattle.std.specs.Option.{option_map, option_map_or}
@@ -58,14 +59,6 @@ has_id-append id (x ∷ xs) ys = ap (λ b. nat_eq x.id id || b) (has_id-append i
 or-true : (a : Bool) → (a || true) ≡ true
 or-true true = refl
 or-true false = refl
-
-not-false : (b : Bool) → not b ≡ false → b ≡ true
-not-false true h = refl
-not-false false h = absurd (true≢false h)
-
-not-true : (b : Bool) → not b ≡ true → b ≡ false
-not-true true h = absurd (true≢false (sym h))
-not-true false h = refl
 
 module _ (c : Contents) where
   read-now-by : (read : TableRead) (o : Option (List ℕ × TableEntry)) → entry_of_id c read.id ≡ o →

@@ -4,6 +4,7 @@ use Rattle.std.proofs.Common.{◌≡◌, ℕ, ◌≤◌, ◌<◌, Bool, true, fa
 use Rattle.std.specs.Prelude.{All, Contains, IfSome, slice_index_or}
 use Rattle.std.proofs.lemmas.Bool.Decides.{nat_tests}
 use Rattle.std.proofs.lemmas.List.Elements.{All-nil, All-cons, All-head, All-tail}
+use Rattle.std.proofs.lemmas.Option.{same_Some}
 use Rattle.std.specs.Cmp.Lexicographic.{pointwise}
 use Rattle.std.specs.List.{find, IsDistinct}
 use Rattle.std.specs.Map.{keys_of}
@@ -51,9 +52,6 @@ nat_same a b h = grind (arith, nat_tests)
 pub nat_equal : (a b : ℕ) → a ≡ b → nat_eq a b ≡ true
 nat_equal a b h = grind (arith, nat_tests)
 
-pub some_same : {X : Type 0} (x y : X) → Some x ≡ Some y → x ≡ y
-some_same x y e = cc
-
 -- ---- the table that an identity finds
 
 module _ (c : Contents) (apart : AreApart c) (id : ℕ) where
@@ -74,7 +72,7 @@ module _ (c : Contents) (apart : AreApart c) (id : ℕ) where
       let there = named-found has c.tables held.name held.table held.is (nat_equal held.table.id id held.id_is) in
       let other = entry-has there.entry there.found in
       let name : there.entry.0 ≡ held.name = apart.identities there.entry.0 held.name there.entry.1 held.table other.is held.is (other.id_is ∙ sym held.id_is) in
-      let table : there.entry.1 ≡ held.table = some_same there.entry.1 held.table (sym other.is ∙ ap (table_named c) name ∙ held.is) in
+      let table : there.entry.1 ≡ held.table = same_Some there.entry.1 held.table (sym other.is ∙ ap (table_named c) name ∙ held.is) in
       there.found ∙ (λ i. Some (name i, table i))
 
 module _ (c : Contents) (apart : AreApart c) (kept : Kept) where

@@ -1,6 +1,7 @@
 -- What a new table that stores provenance remembers is sound, and it is fresh.
 use Rattle.std.proofs.Common.{◌≡◌, ◌≢◌, ℕ, zero, suc, ◌<◌, Bool, true, false, not, cond, List, [], ◌∷◌, ◌++◌, length, filter, Option, Some, None, refl, sym, ap, subst, ◌∙◌, arith, nat_eq}
 use Rattle.std.proofs.lemmas.List.Elements.{All-nil, All-cons, All-append, Contains-append_left, Contains-append_right}
+use Rattle.std.proofs.lemmas.Option.{same_Some}
 use Rattle.std.specs.Prelude.{All, Contains, slice_index_or}
 use Rattle.std.specs.List.{flat_map}
 use Rattle.std.specs.Option.{option_map_or}
@@ -26,7 +27,7 @@ use Rattle.perm_catalog.specs.declared.column.Column.{Column}
 use Rattle.perm_catalog.specs.declared.entries.Kept.{Kept}
 use Rattle.perm_catalog.specs.declared.entries.TableEntry.{TableEntry}
 use Rattle.stored_provenance.proofs.Found.{found-named}
-use Rattle.stored_provenance.proofs.Marks.{nat_same, nat_equal, some_same, has-entry, all-pass}
+use Rattle.stored_provenance.proofs.Marks.{nat_same, nat_equal, has-entry, all-pass}
 use Rattle.stored_provenance.proofs.Soundness.{are-apart}
 use Rattle.query_laws.specs.replaced.OverQueries.{ReadsAs}
 use Rattle.stored_provenance.specs.Held.{IsHeldTable}
@@ -114,7 +115,7 @@ module _ (c : Contents) (sound : IsSound c) where
       table.id ≡ id → held.table ≡ table
   same-table id kinds held name table named same =
       let name_is : held.name ≡ name = sound.identities held.name name held.table table held.named named (held.same ∙ sym same) in
-      some_same held.table table (sym held.named ∙ ap (table_named c) name_is ∙ named)
+      same_Some held.table table (sym held.named ∙ ap (table_named c) name_is ∙ named)
 
   kept-table : (reads : List TableRead) (id : ℕ) (kinds : List Kind) → Contains reads (record { id = id; kinds = kinds }) → IsHeldTable c id kinds →
       IsKeptTable c (flat_map (kept_read c) (each_once reads)) id kinds

@@ -1,5 +1,6 @@
 -- A sound catalog stays sound where a view is added or dropped.
 use Rattle.std.proofs.Common.{◌≡◌, ◌⊎◌, inl, inr, ℕ, Bool, cond, true, false, List, Option, Some, None, sym, ap, subst, ◌∙◌, arith, nat_eq, refl}
+use Rattle.std.proofs.lemmas.Option.{same_Some}
 use Rattle.std.specs.FinMap as map
 use Rattle.std.specs.Cmp.Lexicographic.{pointwise}
 use Rattle.perm_catalog.specs.Changes.{table_named, view_named, is_free, with_view, without_view}
@@ -9,7 +10,7 @@ use Rattle.perm_catalog.specs.declared.entries.TableEntry.{TableEntry}
 use Rattle.perm_catalog.specs.declared.entries.ViewEntry.{ViewEntry}
 use Rattle.perm_catalog.proofs.Named.{AtName, Elsewhere, found, found-apart, named-last, named-without, distinct-last, distinct-without}
 use Rattle.bag_algebra.specs.TableRows.{rows_in}
-use Rattle.stored_provenance.proofs.Marks.{some_same, AreApart, Goes}
+use Rattle.stored_provenance.proofs.Marks.{AreApart, Goes}
 use Rattle.stored_provenance.proofs.Soundness.{none_is_some, are-apart, kept-table, kept-view, stays, free-table, free-view}
 
 -- a table and a view of a catalog whose views alone change
@@ -54,7 +55,7 @@ module _ (c : Contents) (name : List ℕ) (view : ViewEntry) (s : IsSound c) (fr
   place q v h = found (Some view) (view_named c q) (view_named more q) name q v (change q) h
 
   view-sound : (q : List ℕ) (v : ViewEntry) → Place q v → IsSoundView more v
-  view-sound q v (inl here) = subst (IsSoundView more) (some_same view v here.is) (same-view c more view (λ n. refl) new)
+  view-sound q v (inl here) = subst (IsSoundView more) (same_Some view v here.is) (same-view c more view (λ n. refl) new)
   view-sound q v (inr else) = same-view c more v (λ n. refl) (s.views q v else.was)
 
   no-table : table_named c name ≡ None

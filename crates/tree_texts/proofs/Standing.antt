@@ -3,14 +3,13 @@ use Rattle.std.proofs.Common.{◌≡◌, ℕ, zero, suc, ℤ, ◌+◌, true, Lis
 use Rattle.std.specs.Prelude.{nat_lt}
 use Rattle.std.specs.List.{list_all, AllByRecursion}
 use Rattle.std.specs.Str.{IsAscii}
-use Rattle.std.proofs.lemmas.Bool.{ltb-true}
+use Rattle.std.proofs.lemmas.Bool.{ltb-true, and_parts}
 use Rattle.std.proofs.lemmas.List.Elements.{Contains-append_right}
 use Rattle.std.proofs.lemmas.Str.{IsUtf8-from_ascii}
 use Rattle.sql_lexer.specs.declared.token.Token.{Token}
 use Rattle.sql_lexer.specs.declared.token.TokenKind.{TokenKind}
 use Rattle.sql_lexer.specs.declared.token.TokenKind.TheVariants.{Word, Quoted, Number, Text, Symbol as Sign}
 use Rattle.sql_lexer.specs.Printing.{plain_spelled}
-use Rattle.sql_lexer.proofs.Fronts.{and_parts}
 use Rattle.sql_tree.specs.grammar.Grammar.{sql, SqlRule}
 use Rattle.sql_tree.specs.grammar.Rules as rules
 use Rattle.sql_tree.specs.grammar.Rules.{◌then◌, many, Spelled, StartsAt}

@@ -1,5 +1,6 @@
 -- Whether a query is monotone, where its topmost node is one of a monotone query.
 use Rattle.std.proofs.Common.{◌≡◌, ℕ, Bool, true, false, ◌&&◌, List, [], ◌∷◌, sym, ap, ◌∙◌, refl}
+use Rattle.std.proofs.Math.Bool.{and-false}
 use Rattle.std.specs.List.{list_all}
 use mathlib.Core.Bool.{true≢false}
 use Rattle.bag_algebra.specs.Inputs.{inputs_of}
@@ -33,13 +34,9 @@ pub left_input : (query left right : Query) → own_monotone query ≡ true → 
 left_input query left right own are monotone =
     sym (by_inputs query (left ∷ right ∷ []) own are ∙ ap (λ b. is_monotone left && (b && true)) (sym monotone) ∙ and_true (is_monotone left))
 
-none_of : (b : Bool) → (b && false) ≡ false
-none_of true = refl
-none_of false = refl
-
 pub right_fails : (query left right : Query) → own_monotone query ≡ true → left ∷ right ∷ [] ≡ inputs_of query → false ≡ is_monotone right
     → false ≡ is_monotone query
 right_fails query left right own are fails =
-    sym (by_inputs query (left ∷ right ∷ []) own are ∙ ap (λ b. is_monotone left && (b && true)) (sym fails) ∙ none_of (is_monotone left))
+    sym (by_inputs query (left ∷ right ∷ []) own are ∙ ap (λ b. is_monotone left && (b && true)) (sym fails) ∙ and-false (is_monotone left))
 
 pub ruleset along = (no_inputs, one_input, left_input, right_fails)
