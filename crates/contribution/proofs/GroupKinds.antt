@@ -12,7 +12,8 @@ use Rattle.perm_values.specs.declared.kind.Kind.TheVariants as kind
 use Rattle.perm_values.specs.declared.value.Value.{Value}
 use Rattle.perm_values.specs.declared.value.Value.TheVariants.{Null, Integer}
 use Rattle.bag_algebra.specs.Bags.{Row, Bag}
-use Rattle.bag_algebra.specs.Kinds.{kinds_in}
+use Rattle.bag_algebra.specs.Kinds.{kinds_in, aggregate_kinds}
+use Rattle.bag_algebra.specs.Meaning.{functions_of}
 use Rattle.bag_algebra.specs.Means.{Means, Witness, present, total, sum_of, first_or_null, aggregated, class_keys, class_of, good_row, good_rows, aggregates_of, class_row, grouped, class_lists, aggregate_means}
 use Rattle.bag_algebra.specs.Outcome.{Outcome, Good, Bad, only, each}
 use Rattle.bag_algebra.specs.declared.place.Place.{Place}
@@ -77,12 +78,6 @@ aggregated-fits Max k vs e h =
     first-fits k _ (each-sorted (Fits k) (λ a b. ordering_reverse (value_cmp a b)) (present vs) (each-filter (Fits k) (λ v. not (is_null v)) vs h))
 
 -- ---- the aggregates of a row, one after another
-
-abbrev pub functions_of : List Aggr → List AggFn
-functions_of aggregates = map (λ (aggregate : Aggr). aggregate.function) aggregates
-
-abbrev pub aggregate_kinds : List Aggr → List Kind
-aggregate_kinds aggregates = map (λ (aggregate : Aggr). aggregate.kind) aggregates
 
 -- the values from a place on are arguments of the aggregates
 abbrev pub ArgumentsFrom : List Aggr → ℕ → Row → Type 0

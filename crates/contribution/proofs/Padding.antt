@@ -1,6 +1,6 @@
 -- NULLs as items, and NULLs beside the columns of a query.
 use Rattle.std.proofs.Common.{◌≡◌, ℕ, List, [], ◌∷◌, ◌++◌, true, map, length, refl, sym, ap, ◌∙◌, arith, append_assoc}
-use Rattle.perm_values.specs.Rows.{picked, value_at}
+use Rattle.perm_values.specs.Rows.{picked, value_at, PlacesWithin}
 use Rattle.perm_values.specs.Values.{fits}
 use Rattle.perm_values.specs.declared.kind.Kind.{Kind}
 use Rattle.perm_values.specs.declared.kind.Kind.TheVariants.{Integer, Text, Boolean}
@@ -8,16 +8,15 @@ use Rattle.perm_values.specs.declared.value.Value.TheVariants.{Null}
 use Rattle.bag_algebra.proofs.Columns.{column_items-give, each-good}
 use Rattle.bag_algebra.specs.Bags.{Row, Bag, nulls}
 use Rattle.bag_algebra.specs.ColumnItems.{column_items}
-use Rattle.bag_algebra.specs.Kinds.{kinds_of, kinds_in, width_of}
+use Rattle.bag_algebra.specs.Kinds.{kinds_of, kinds_in, width_of, item_kinds}
 use Rattle.bag_algebra.specs.Meaning.{Database, meaning, items_on}
 use Rattle.bag_algebra.specs.Means.{no_subs}
 use Rattle.bag_algebra.specs.Outcome.{Outcome, Good, Bad, and_then, mapped, both, each}
 use Rattle.bag_algebra.specs.built.Patterns.{ProjectOf}
-use Rattle.bag_algebra.specs.WellFormed.{WellFormed, PlacesIn, ItemsForm, HasKind}
+use Rattle.bag_algebra.specs.WellFormed.{WellFormed, ItemsForm, HasKind}
 use Rattle.bag_algebra.specs.declared.expr.Item.{Item}
 use Rattle.bag_algebra.specs.declared.query.Query.{Query, end_of-Sublink}
 use Rattle.contribution.proofs.ColumnQueries.{all-nothing, all-first, all-rest, column_items-kinds, column_items-formed}
-use Rattle.contribution.specs.ItemKinds.{item_kinds}
 use Rattle.contribution.specs.NullItems.{null_item, padded_items, padded_row}
 use Rattle.bag_algebra.specs.built.Openings.{rows-with_lists}
 
@@ -100,7 +99,7 @@ module _ (q : Query) (before : List ℕ) (kinds : List Kind) (behind : List ℕ)
     by_input (Good bag) = each-good (padded_row before (length kinds) behind) (items_on items env no_subs) (padded-give env) bag
     by_input (Bad faults) = refl
 
-  pub formed-padded : PlacesIn (width_of q) before → PlacesIn (width_of q) behind → (outer : List (List Kind)) → WellFormed outer q → WellFormed outer padded_query
+  pub formed-padded : PlacesWithin (width_of q) before → PlacesWithin (width_of q) behind → (outer : List (List Kind)) → WellFormed outer q → WellFormed outer padded_query
   formed-padded within_first within_last outer w =
       let scopes = kinds_of q ∷ outer in
       let parts : ItemsForm scopes [] items =

@@ -3,12 +3,13 @@ use Rattle.std.specs.Prelude.{◌≡◌, ⊤, ℕ, ◌+◌, Bool, true, false, c
 use Rattle.std.proofs.Common.{refl, ap, sym, ◌∙◌, subst, true≢false}
 use Rattle.std.proofs.lemmas.List.Elements.{All-append}
 use Rattle.std.specs.List.{list_any, AllByRecursion as Every}
+use Rattle.perm_values.specs.Rows.{PlacesWithin}
 use Rattle.perm_values.specs.declared.kind.Kind.{Kind}
 use Rattle.perm_values.specs.declared.kind.Kind.TheVariants.{Boolean}
 use Rattle.bag_algebra.specs.built.Openings.{kinds_of-Filter, kinds_of-Aggregate}
 use Rattle.bag_algebra.specs.built.Forms.{subs_kinds, WellFormed-Filter, WellFormed-Project, WellFormed-Distinct, WellFormed-Aggregate}
-use Rattle.bag_algebra.specs.Kinds.{kinds_of, kinds_in, width_of}
-use Rattle.bag_algebra.specs.WellFormed.{WellFormed, PlacesIn, AggregatesForm, aggr_form}
+use Rattle.bag_algebra.specs.Kinds.{kinds_of, kinds_in, width_of, aggregate_kinds}
+use Rattle.bag_algebra.specs.WellFormed.{WellFormed, AggregatesForm, aggr_form}
 use Rattle.bag_algebra.specs.declared.query.Aggr.{Aggr}
 use Rattle.bag_algebra.specs.declared.query.Query.{Query}
 use Rattle.bag_algebra.specs.declared.query.Query.TheVariants.{Project, Aggregate}
@@ -22,7 +23,7 @@ use Rattle.name_meaning.specs.Sublinks.{nothing_before}
 use Rattle.name_meaning.specs.declared.answer.Break.{Break}
 use Rattle.name_meaning.specs.declared.scope.Scope.{Scope}
 use Rattle.name_meaning.specs.laws.Formed.{IsFormedExpr}
-use Rattle.name_meaning.specs.laws.Standing.{HoldsScope, RowsHold, aggregate_kinds, AggregatesStand}
+use Rattle.name_meaning.specs.laws.Standing.{HoldsScope, RowsHold, AggregatesStand}
 use Rattle.name_meaning.proofs.Arms.{GoodOptional}
 use Rattle.name_meaning.proofs.FormedParts.{none-formed}
 use Rattle.name_meaning.proofs.GoodMeant.{GoodMeant}
@@ -131,7 +132,7 @@ module _ (outer : List Scope) (rows : List (List Kind)) (own : Scope) (input : Q
 
   -- a grouped core
   pub grouped-core : (condition : Option Meant) (groups : List ℕ) (having : Option Meant) (list : Made) (is_distinct : Bool)
-      → FormedOptional own_here condition → PlacesIn (width_of input) groups
+      → FormedOptional own_here condition → PlacesWithin (width_of input) groups
       → FormedOptional (in_clause (record own { groups = Some groups }) outer true) having
       → IsFormedList (in_clause (record own { groups = Some groups }) outer true)
       (record { subs = 0; aggregates = 0 + length (optional_built having).aggregates }) list
@@ -149,7 +150,7 @@ module _ (outer : List Scope) (rows : List (List Kind)) (own : Scope) (input : Q
       let over = λ (aggregate : Aggr). aggr_form aggregate.function aggregate.argument (kinds_of seen ∷ rows) aggregate.kind in
       let aggregated : WellFormed rows rows_made = by (sym (WellFormed-Aggregate rows seen groups aggregates)) (record {
         input = where-formed condition formed;
-        groups = subst (λ ks. PlacesIn (length ks) groups) (sym kinds) within;
+        groups = subst (λ ks. PlacesWithin (length ks) groups) (sym kinds) within;
         aggregates = All-append over before list.aggregates
             (arguments-formed here having (kinds_of seen ∷ rows) has (own_holds, core.around))
             (listed.aggregates_formed (kinds_of seen ∷ rows) (own_holds, core.around));

@@ -8,13 +8,14 @@ use Rattle.std.proofs.lemmas.List.Quantifiers.{position-Some}
 use Rattle.std.proofs.lemmas.Option.{same_Some, slice_get-map}
 use Rattle.std.specs.List.{list_any, count_by, range_with_len, AllByRecursion as Every}
 use Rattle.std.specs.Option.{option_map_or}
+use Rattle.perm_values.specs.Rows.{PlacesWithin}
 use Rattle.perm_values.specs.declared.kind.Kind.{Kind}
 use Rattle.perm_values.specs.declared.kind.Kind.TheVariants.{Boolean}
 use Rattle.bag_algebra.specs.Bags.{Bag}
 use Rattle.bag_algebra.specs.built.Openings.{kinds_of-Join, kinds_of-Apply}
 use Rattle.bag_algebra.specs.built.Forms.{subs_kinds, WellFormed-Base, WellFormed-Join, WellFormed-Apply}
 use Rattle.bag_algebra.specs.Kinds.{kinds_of, width_of}
-use Rattle.bag_algebra.specs.WellFormed.{HasKind, WellFormed, PlacesIn, label_width, is_dependent}
+use Rattle.bag_algebra.specs.WellFormed.{HasKind, WellFormed, label_width, is_dependent}
 use Rattle.bag_algebra.specs.declared.expr.Expr.{Expr}
 use Rattle.bag_algebra.specs.declared.query.JoinKind.{JoinKind}
 use Rattle.bag_algebra.specs.declared.query.JoinKind.TheVariants as join
@@ -59,7 +60,7 @@ use Rattle.name_meaning.proofs.Standing.{stand-whole}
 
 -- ---- places
 
-pub range-in : (from n width : ℕ) → from + n ≤ width → PlacesIn width (range_with_len from n)
+pub range-in : (from n width : ℕ) → from + n ≤ width → PlacesWithin width (range_with_len from n)
 range-in from zero width h = All-nil _
 range-in from (suc n) width h =
     All-cons (λ (place : ℕ). place < width) from (range_with_len (from + 1) n) (omega arith) (range-in (from + 1) n width (omega arith))
@@ -74,7 +75,7 @@ position-in {X} test (x ∷ xs) e = chosen (position test (x ∷ xs)) refl where
   chosen (Some at) f = (position-Some test (x ∷ xs) at x f).0
 
 attributes-in : (names earlier : List (List ℕ)) (attributes : List Name) → attribute_breaks (Some names) earlier attributes ≡ []
-    → PlacesIn (length names) (map (place_of names) (texts_of attributes))
+    → PlacesWithin (length names) (map (place_of names) (texts_of attributes))
 attributes-in names earlier [] whole = All-nil _
 attributes-in names earlier (attribute ∷ attributes) whole =
     let one : List Break = column_breaks attribute names in
@@ -120,13 +121,13 @@ pub record FormedRead (outer : List Scope) (r : Read) : Type 0 where
 abbrev pub GoodRead : List Scope → Read → Type 0
 GoodRead outer r = r.breaks ≡ [] → FormedRead outer r
 
-based-formed : (rows : List (List Kind)) (input : Query) (places : List ℕ) (label : Label) → WellFormed rows input → PlacesIn (width_of input) places
+based-formed : (rows : List (List Kind)) (input : Query) (places : List ℕ) (label : Label) → WellFormed rows input → PlacesWithin (width_of input) places
     → label_width label ≡ length places → WellFormed rows (Base input places label)
 based-formed rows input places label f within named =
     by (sym (WellFormed-Base rows input places label)) (record { input = f; in_range = within; named = named })
 
 plain-formed : (rows : List (List Kind)) (query : Query) (names : List (List ℕ)) (places : Option (List ℕ)) → WellFormed rows query
-    → IfSome places (PlacesIn (width_of query)) → WellFormed rows (option_map_or (external query names) places query)
+    → IfSome places (PlacesWithin (width_of query)) → WellFormed rows (option_map_or (external query names) places query)
 plain-formed rows query names None f within = f
 plain-formed rows query names (Some places) f within = based-formed rows query places (External (names_at names places)) f within (length-map places _)
 
@@ -141,7 +142,7 @@ module _ (c : Contents) (sound : IsSound c) where
       (range-in 0 (length columns) (length (column_kinds columns)) (omega (arith, l))) m
   table-formed rows id name columns held (Some mark) is =
       based-formed rows (Table id (column_kinds columns)) mark.places (External (names_at (names_of (table_columns columns)) mark.places)) tt
-      (subst (λ (n : ℕ). PlacesIn n mark.places) (sym (length-map columns (λ (column : Column). column.kind))) is.places)
+      (subst (λ (n : ℕ). PlacesWithin n mark.places) (sym (length-map columns (λ (column : Column). column.kind))) is.places)
       (length-map mark.places _)
 
   good-read_table : (outer : List Scope) (name : List ℕ) (table : TableEntry) → IsSoundTable c table → GoodRead outer (read_table name table)
@@ -223,7 +224,7 @@ marked-formed mark.BaseRelation label names read rows f g width whole =
     (sym (length-range_with_len 0 (length names)))
 marked-formed (mark.External attributes) label names read rows f g width whole =
     based-formed rows read.query (map (place_of names) (texts_of attributes)) (External (texts_of attributes)) f
-    (subst (λ w. PlacesIn w (map (place_of names) (texts_of attributes))) width (attributes-in names [] attributes whole))
+    (subst (λ w. PlacesWithin w (map (place_of names) (texts_of attributes))) width (attributes-in names [] attributes whole))
     (sym (length-map (texts_of attributes) (place_of names)))
 
 pub good-item_meant : (outer : List Scope) (at : ℕ) (m : ScopeMark) (earlier : List (List ℕ)) (name label : List ℕ) (read : Read) → GoodRead outer read

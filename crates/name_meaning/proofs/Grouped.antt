@@ -6,17 +6,18 @@ use Rattle.std.specs.List.{cons_option}
 use Rattle.std.proofs.lemmas.List.Elements.{All-nil, All-cons}
 use Rattle.std.proofs.lemmas.List.Quantifiers.{position-Some}
 use Rattle.std.proofs.lemmas.Option.{none-some, slice_get-map, slice_get_within, slice_get-get_or, get_or_from_slice_get}
+use Rattle.perm_values.specs.Rows.{PlacesWithin}
 use Rattle.perm_values.specs.declared.kind.Kind.{Kind}
 use Rattle.perm_values.specs.declared.kind.Kind.TheVariants.{Text}
-use Rattle.bag_algebra.specs.Kinds.{kind_in, kinds_in}
-use Rattle.bag_algebra.specs.WellFormed.{PlacesIn, column_kind}
+use Rattle.bag_algebra.specs.Kinds.{kind_in, kinds_in, aggregate_kinds}
+use Rattle.bag_algebra.specs.WellFormed.{column_kind}
 use Rattle.bag_algebra.specs.declared.query.Aggr.{Aggr}
 use Rattle.sql_tree.specs.declared.name.ColRef.{ColRef}
 use Rattle.name_meaning.specs.Cores.{group_found, group_place}
 use Rattle.name_meaning.specs.declared.scope.Found.{Found}
 use Rattle.name_meaning.specs.declared.scope.Found.TheVariants.{Absent as absent, Ambiguous as ambiguous, Column as found}
 use Rattle.name_meaning.specs.declared.scope.Scope.{Scope}
-use Rattle.name_meaning.specs.laws.Standing.{StandAt, HoldsScope, aggregate_kinds, AggregatesStand}
+use Rattle.name_meaning.specs.laws.Standing.{StandAt, HoldsScope, AggregatesStand}
 use Rattle.name_meaning.proofs.FoundColumns.{look_up-kind}
 use Rattle.name_meaning.proofs.Standing.{stand-behind, slice_get-front}
 
@@ -36,11 +37,11 @@ group_place-in own row reference place hold e = chosen (group_found own referenc
   chosen (found column) f g =
       in-one_row row column.level place column.kind (look_up-kind (own ∷ []) (row ∷ []) reference column place f g (hold, tt))
 
-pub groups-in : (own : Scope) (row : List Kind) (groups : List ColRef) → HoldsScope own row → PlacesIn (length row) (filter_map (group_place own) groups)
+pub groups-in : (own : Scope) (row : List Kind) (groups : List ColRef) → HoldsScope own row → PlacesWithin (length row) (filter_map (group_place own) groups)
 groups-in own row [] hold = All-nil _
 groups-in own row (group ∷ groups) hold = chosen (group_place own group) refl (groups-in own row groups hold) where
-  chosen : (place : Option ℕ) → group_place own group ≡ place → PlacesIn (length row) (filter_map (group_place own) groups)
-      → PlacesIn (length row) (cons_option place (filter_map (group_place own) groups))
+  chosen : (place : Option ℕ) → group_place own group ≡ place → PlacesWithin (length row) (filter_map (group_place own) groups)
+      → PlacesWithin (length row) (cons_option place (filter_map (group_place own) groups))
   chosen None e rest = rest
   chosen (Some place) e rest = All-cons (λ (place : ℕ). place < length row) place (filter_map (group_place own) groups)
       (group_place-in own row group place hold e) rest

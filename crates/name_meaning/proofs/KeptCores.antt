@@ -5,7 +5,7 @@ use Rattle.std.specs.Option.{option_map_or}
 use Rattle.perm_values.specs.declared.kind.Kind.{Kind}
 use Rattle.perm_values.specs.declared.kind.Kind.TheVariants as kind
 use Rattle.bag_algebra.specs.built.Openings.{kinds_of-Project, kinds_of-Distinct}
-use Rattle.bag_algebra.specs.Kinds.{kinds_of}
+use Rattle.bag_algebra.specs.Kinds.{kinds_of, item_kinds}
 use Rattle.bag_algebra.specs.declared.query.Aggr.{Aggr}
 use Rattle.bag_algebra.specs.declared.query.Query.{Query}
 use Rattle.bag_algebra.specs.declared.query.Query.TheVariants.{Project}
@@ -19,7 +19,6 @@ use Rattle.name_meaning.specs.Sublinks.{nothing_before}
 use Rattle.name_meaning.specs.declared.answer.Break.{Break}
 use Rattle.name_meaning.specs.declared.scope.Scope.{Scope}
 use Rattle.name_meaning.specs.laws.Facts.{Facts, facts_of, both_facts, sub_facts}
-use Rattle.name_meaning.specs.laws.Known.{item_kinds}
 use Rattle.name_meaning.proofs.Every.{Every, every-append, every-map, back-none}
 use Rattle.name_meaning.proofs.FactsOf.{facts-Filter, facts-Project, facts-aggregated, facts-distinct_if}
 use Rattle.name_meaning.proofs.Kept.{GoodQuery}

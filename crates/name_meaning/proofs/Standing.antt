@@ -3,10 +3,11 @@ use Rattle.std.specs.Prelude.{◌≡◌, ℕ, zero, suc, ◌+◌, List, [], ◌�
 use Rattle.std.proofs.Common.{refl, ap, ◌∙◌, subst, arith}
 use Rattle.std.proofs.lemmas.List.{length-map, map-append}
 use Rattle.perm_values.specs.declared.kind.Kind.{Kind}
+use Rattle.bag_algebra.specs.Kinds.{aggregate_kinds}
 use Rattle.bag_algebra.specs.declared.query.Aggr.{Aggr}
 use Rattle.name_meaning.specs.Scopes.{group_count}
 use Rattle.name_meaning.specs.declared.scope.Scope.{Scope}
-use Rattle.name_meaning.specs.laws.Standing.{StandAt, own_row, aggregate_kinds, AggregatesStand}
+use Rattle.name_meaning.specs.laws.Standing.{StandAt, own_row, AggregatesStand}
 
 pub stand-append : (place : ℕ) (xs ys row : List Kind) → StandAt place (xs ++ ys) row → StandAt place xs row × StandAt (place + length xs) ys row
 stand-append place [] ys row h = (tt, subst (λ p. StandAt p ys row) (let e : place ≡ place + 0 = omega arith in e) h)

@@ -2,11 +2,12 @@
 use Rattle.std.specs.Prelude.{◌≡◌, ℕ, Bool, true, false, cond, not, List, [], ◌∷◌, ◌++◌, length, nat_eq, slice_get, Option, Some, None, IfSome}
 use Rattle.std.proofs.Common.{refl, ap, sym, ◌∙◌, subst, true≢false, arith, eqb-true}
 use Rattle.null_logic.specs.declared.compare.Compare.{Compare}
+use Rattle.perm_values.specs.Rows.{PlacesWithin}
 use Rattle.perm_values.specs.declared.kind.Kind.{Kind}
 use Rattle.perm_values.specs.declared.kind.Kind.TheVariants.{Text, Boolean}
 use Rattle.bag_algebra.specs.built.Forms.{subs_kinds}
 use Rattle.bag_algebra.specs.Kinds.{kinds_of, kind_in, width_of}
-use Rattle.bag_algebra.specs.WellFormed.{HasKind, WellFormed, PlacesIn, AggregatesForm, sub_form, sub_kind}
+use Rattle.bag_algebra.specs.WellFormed.{HasKind, WellFormed, AggregatesForm, sub_form, sub_kind}
 use Rattle.bag_algebra.specs.declared.expr.Expr.{Expr}
 use Rattle.bag_algebra.specs.declared.query.Aggr.{Aggr}
 use Rattle.bag_algebra.specs.declared.query.SubKind.{SubKind}
@@ -29,7 +30,7 @@ use Rattle.name_meaning.proofs.Settled.{settled-twice, settled-united, settled-s
 pub record GoodQuery (around : Around) (m : QueryMeant) : Type 0 where
   pub known : m.breaks ≡ [] → HasItsKinds m
   pub formed : m.breaks ≡ [] → (rows : List (List Kind)) → RowsHold around.outer rows → (wanted : List Kind) → WellFormed rows (m.make wanted)
-  pub places : m.breaks ≡ [] → IfSome m.places (PlacesIn (width_of (m.make [])))
+  pub places : m.breaks ≡ [] → IfSome m.places (PlacesWithin (width_of (m.make [])))
 
 -- ---- one column
 

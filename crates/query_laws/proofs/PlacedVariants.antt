@@ -19,6 +19,7 @@ use Rattle.bag_algebra.specs.Bags.{Row}
 use Rattle.bag_algebra.specs.built.Openings.{row_of_parts, row_of_steps, row_of_arms, shape_of_steps, shape_of_arms, Chain-is, Case-is, IsNull-is, IsTruth-is, Same-is}
 use Rattle.bag_algebra.specs.Expressions.{value, values, step_values, arm_value, Step, operate, chain, has_truth, chosen_arm}
 use Rattle.bag_algebra.specs.FaultFree.{may_fault, faultless, items_faultless, parts_faultless, arms_faultless}
+use Rattle.bag_algebra.specs.Kinds.{item_kinds}
 use Rattle.bag_algebra.specs.Meaning.{items_on}
 use Rattle.bag_algebra.specs.Means.{no_subs}
 use Rattle.bag_algebra.specs.Outcome.{Outcome, Good, and_then, mapped, both, both_then}
@@ -30,7 +31,6 @@ use Rattle.bag_algebra.specs.declared.expr.Expr.{Expr}
 use Rattle.bag_algebra.specs.declared.expr.Expr.TheBlock.{shape-the_row-Expr-0, hidden-the_row-Expr-0, shape-the_row-ChainStep-2, hidden-the_row-ChainStep-2, shape-the_row-Arm-3, hidden-the_row-Arm-3}
 use Rattle.bag_algebra.specs.declared.expr.Expr.TheVariants.{Col, Lit, Op, Chain, Case, Sub, IsNull, IsTruth, Same}
 use Rattle.bag_algebra.specs.declared.expr.Item.{Item}
-use Rattle.contribution.specs.ItemKinds.{item_kinds}
 use Rattle.query_laws.specs.spines.PlacedColumns.{IsPlaced, PartsPlaced, StepsPlaced, ArmsPlaced}
 
 -- ---- columns

@@ -10,13 +10,14 @@ use Rattle.bag_algebra.proofs.Truths.{left-true, right-true}
 use Rattle.bag_algebra.specs.Bags.{Row, nulls}
 use Rattle.bag_algebra.specs.Expressions.{value}
 use Rattle.bag_algebra.specs.FaultFree.{faultless, items_faultless}
+use Rattle.bag_algebra.specs.Kinds.{item_kinds}
 use Rattle.bag_algebra.specs.Meaning.{items_on}
 use Rattle.bag_algebra.specs.Means.{no_subs, good_row}
 use Rattle.bag_algebra.specs.Outcome.{Outcome, Good, Bad, is_good, both}
 use Rattle.bag_algebra.specs.WellFormed.{HasKind, ItemsForm}
 use Rattle.bag_algebra.specs.declared.expr.Item.{Item}
 use Rattle.contribution.proofs.ColumnQueries.{all-nothing, all-first}
-use Rattle.contribution.specs.ItemKinds.{item_kinds, column_of}
+use Rattle.contribution.specs.ItemKinds.{column_of}
 use Rattle.query_laws.specs.spines.Spines.{items_behind}
 
 -- ---- items that may not fault

@@ -18,7 +18,7 @@ use Rattle.bag_algebra.specs.built.Openings.{rows-with_lists}
 use Rattle.bag_algebra.specs.built.Patterns.{OpOf, ChainOf, CaseOf, IsNullOf, IsTruthOf, SameOf, JoinOf, ApplyOf}
 use Rattle.bag_algebra.specs.Expressions.{value}
 use Rattle.bag_algebra.specs.Fits.{bag_fits}
-use Rattle.bag_algebra.specs.Kinds.{kinds_of, width_of}
+use Rattle.bag_algebra.specs.Kinds.{kinds_of, width_of, item_kinds}
 use Rattle.bag_algebra.specs.Meaning.{Database, meaning, condition_on, items_on}
 use Rattle.bag_algebra.specs.Means.{good_row, good_rows, holds_of, is_met, is_some_row, keeps_left, kept, joined_rows, met_pairs, no_subs, under, unmatched_left}
 use Rattle.bag_algebra.specs.Outcome.{Outcome, Good, Bad, Faults, union, and_then, mapped, both, both_then, gather, each, is_good}
@@ -38,7 +38,6 @@ use Rattle.contribution.proofs.SetsOfRows.{mapped-gather}
 use Rattle.contribution.proofs.ValueKinds.{fits-begins}
 use Rattle.contribution.proofs.WhereGood.{each-in}
 use Rattle.contribution.specs.Fitting.{Fitting}
-use Rattle.contribution.specs.ItemKinds.{item_kinds}
 use Rattle.query_laws.proofs.Inputs.{across}
 use Rattle.query_laws.proofs.StandingSublinks.{gather-on}
 use Rattle.query_laws.proofs.SpineForms.{spine-faultless, spine-fault_free, spine-kinds, spine-tables, base-formed}

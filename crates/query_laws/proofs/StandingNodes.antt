@@ -2,6 +2,7 @@
 use Rattle.std.proofs.Common.{◌≡◌, ℕ, true, List, [], ◌∷◌, ◌++◌, length, Contains, refl, sym, ap, ◌∙◌, subst}
 use Rattle.std.proofs.lemmas.Bool.{and_from}
 use Rattle.std.specs.Prelude.{Bool, ◌&&◌, IsTrue}
+use Rattle.perm_values.specs.Rows.{KeysWithin, PlacesWithin}
 use Rattle.perm_values.specs.declared.key.Key.{Key}
 use Rattle.perm_values.specs.declared.kind.Kind.{Kind}
 use Rattle.perm_values.specs.declared.kind.Kind.TheVariants.{Boolean}
@@ -15,7 +16,7 @@ use Rattle.bag_algebra.specs.Meaning.{Database, meaning}
 use Rattle.bag_algebra.specs.Outcome.{Good}
 use Rattle.bag_algebra.specs.Rewriting.{is_plain, Stands, SameRows}
 use Rattle.bag_algebra.specs.TablesRead.{tables_read, EachTable}
-use Rattle.bag_algebra.specs.WellFormed.{HasKind, ItemsForm, AggregatesForm, KeysIn, PlacesIn, sub_form, sub_kind, SetForm, WellFormed}
+use Rattle.bag_algebra.specs.WellFormed.{HasKind, ItemsForm, AggregatesForm, sub_form, sub_kind, SetForm, WellFormed}
 use Rattle.bag_algebra.specs.declared.expr.Expr.{Expr}
 use Rattle.bag_algebra.specs.declared.expr.Item.{Item}
 use Rattle.bag_algebra.specs.declared.query.Aggr.{Aggr}
@@ -190,7 +191,7 @@ module _ (q b : Query) (s : Stands q b) where
       let e = sym (s.kinds outer g.input) in
       by (sym (WellFormed-Aggregate outer b groups others)) (record {
         input = s.formed outer g.input;
-        groups = by (λ i. PlacesIn (length (e i)) groups) g.groups;
+        groups = by (λ i. PlacesWithin (length (e i)) groups) g.groups;
         aggregates = aggregates-formed _ aggregates others same (by (λ i. AggregatesForm (e i ∷ outer) aggregates) g.aggregates);
       }))
       (λ P h. by (sym (EachTable-Aggregate P b groups others)) (reads_among-each P b q s.tables (by (EachTable-Aggregate P q groups aggregates) h)))
@@ -207,7 +208,7 @@ module _ (q b : Query) (s : Stands q b) where
       let e = sym (s.kinds outer g.input) in
       by (sym (WellFormed-Limit outer b keys most)) (record {
         input = s.formed outer g.input;
-        keys = by (λ i. KeysIn (length (e i)) keys) g.keys;
+        keys = by (λ i. KeysWithin (length (e i)) keys) g.keys;
         bound = g.bound;
       }))
       (λ P h. by (sym (EachTable-Limit P b keys most)) (reads_among-each P b q s.tables (by (EachTable-Limit P q keys most) h)))

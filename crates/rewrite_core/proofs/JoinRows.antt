@@ -3,7 +3,7 @@
 use Rattle.std.proofs.Common.{◌≡◌, ◌↔◌, ℕ, ◌+◌, ◌≤◌, Bool, true, not, List, [], ◌∷◌, ◌++◌, map, length, Contains, refl, sym, ap, ◌∙◌, subst, append-nil, arith, length-append}
 use Rattle.std.proofs.lemmas.List.Elements.{Contains-append_left, Contains-append_right}
 use Rattle.std.specs.List.{list_any}
-use Rattle.perm_values.specs.Rows.{picked}
+use Rattle.perm_values.specs.Rows.{picked, PlacesWithin}
 use Rattle.perm_values.specs.declared.kind.Kind.{Kind}
 use Rattle.perm_values.specs.declared.kind.Kind.TheVariants.{Boolean, Text}
 use Rattle.perm_values.specs.declared.value.Value.{Value}
@@ -22,7 +22,7 @@ use Rattle.bag_algebra.specs.Outcome.{Outcome, Good, Bad, both_then, gather, map
 use Rattle.bag_algebra.specs.built.Patterns.{JoinOf, ProjectOf, ProvOf}
 use Rattle.bag_algebra.specs.Rewriting.{IsRewrite, SameSet}
 use Rattle.bag_algebra.specs.TablesRead.{tables_read}
-use Rattle.bag_algebra.specs.WellFormed.{HasKind, PlacesIn, WellFormed}
+use Rattle.bag_algebra.specs.WellFormed.{HasKind, WellFormed}
 use Rattle.bag_algebra.specs.declared.expr.Expr.{Expr}
 use Rattle.bag_algebra.specs.declared.query.JoinKind.{JoinKind}
 use Rattle.bag_algebra.specs.declared.query.Query.{Query, end_of-Sublink}
@@ -123,9 +123,9 @@ module _ (kind : JoinKind) (left left_rewriting right right_rewriting : Query) (
     formed-rewriting =
         let within = all-within (width_of left) (width_of left_rewriting) (width_of right) (width_of right_rewriting) left_longer right_longer in
         let within_own = own-within (width_of left) (width_of left_rewriting) (width_of right) (width_of right_rewriting) left_longer right_longer in
-        formed-columns pairs order (subst (λ n. PlacesIn n order) (sym whole_width) within) outer
+        formed-columns pairs order (subst (λ n. PlacesWithin n order) (sym whole_width) within) outer
         (formed-pairs kind left_rewriting right_rewriting on outer (left_given.formed outer formed.left) (right_given.formed outer formed.right)
-        (moved.kind (kinds_of left_rewriting ++ kinds_of right_rewriting) outer [] Boolean (subst (λ n. PlacesIn n own) (sym whole_width) within_own)
+        (moved.kind (kinds_of left_rewriting ++ kinds_of right_rewriting) outer [] Boolean (subst (λ n. PlacesWithin n own) (sym whole_width) within_own)
         (subst (λ kinds. HasKind (kinds ∷ outer) [] condition Boolean) (sym own-kinds) formed.condition)))
 
     module _ (db : Database) (env : List Row) (tables : TablesFit db node) (fitting : env_fits env outer ≡ true) where

@@ -14,7 +14,7 @@ use Rattle.bag_algebra.specs.Bags.{Row, Bag}
 use Rattle.bag_algebra.specs.built.Openings.{Project-is}
 use Rattle.bag_algebra.specs.Expressions.{value}
 use Rattle.bag_algebra.specs.Fits.{TablesFit, env_fits}
-use Rattle.bag_algebra.specs.Kinds.{kinds_in, kinds_of, place_kinds, shape, width_of}
+use Rattle.bag_algebra.specs.Kinds.{kinds_in, kinds_of, place_kinds, shape, width_of, item_kinds}
 use Rattle.bag_algebra.specs.Meaning.{Database, meaning, witnesses, items_on}
 use Rattle.bag_algebra.specs.Means.{Witness, flat, good_rows, no_subs}
 use Rattle.bag_algebra.specs.Outcome.{Outcome, Good, Bad, and_then, both, each, mapped}
@@ -32,7 +32,6 @@ use Rattle.contribution.specs.Fitting.{Fitting}
 use Rattle.contribution.proofs.ColumnQueries.{column_items-formed, column_items-kinds}
 use Rattle.contribution.proofs.NodeQueries.{meaning-projected, formed-projected, plain-projected}
 use Rattle.contribution.proofs.Padding.{items-append, kinds-append}
-use Rattle.contribution.specs.ItemKinds.{item_kinds}
 use Rattle.rewrite_core.proofs.Faults.{SameFaults, same_faults-made, each-bad_alike, good-mapped, in-each}
 use Rattle.rewrite_core.proofs.FlatRows.{Flattened, flattened, stands_beside, row-begins}
 use Rattle.rewrite_core.proofs.NodeRows.{Made, rewritten-over}

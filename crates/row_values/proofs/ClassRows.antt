@@ -6,7 +6,7 @@ use Rattle.std.specs.List.{AllZip}
 use Rattle.perm_values.specs.Rows.{value_at, same_row, picked}
 use Rattle.perm_values.specs.declared.value.Value.{Value}
 use Rattle.bag_algebra.specs.Bags.{Row, Bag}
-use Rattle.bag_algebra.specs.Meaning.{optional_value, arguments_on}
+use Rattle.bag_algebra.specs.Meaning.{optional_value, arguments_on, functions_of}
 use Rattle.bag_algebra.specs.Means.{aggregated, aggregates_of, good_row, good_value, class_of, class_keys, class_row, grouped}
 use Rattle.bag_algebra.specs.Outcome.{Outcome, Good, Bad, union, has, and_then, mapped, both, each}
 use Rattle.bag_algebra.specs.declared.query.Aggr.{Aggr}
@@ -16,7 +16,7 @@ use Rattle.row_values.specs.Answers.{Refuses}
 use Rattle.row_values.specs.declared.error.ExecError.{ExecError}
 use Rattle.row_values.specs.declared.error.ExecError.TheVariants.{Fault, NoMemory}
 use Rattle.row_values.proofs.Outcomes.{both_first, both_second, each_item, each_good, and_then_first}
-use Rattle.row_values.specs.Columns.{functions_of, IsGoodOn, IsColumn, class_value, MakesRows}
+use Rattle.row_values.specs.Columns.{IsGoodOn, IsColumn, class_value, MakesRows}
 use Rattle.row_values.specs.Groups.{IsClassed, numbered}
 use Rattle.row_values.specs.declared.groups.column.Column.{Column}
 use Rattle.row_values.proofs.Keys.{numbered-is}

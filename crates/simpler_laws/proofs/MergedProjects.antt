@@ -6,7 +6,7 @@ use Rattle.bag_algebra.specs.Bags.{Row, Bag}
 use Rattle.bag_algebra.specs.Expressions.{value}
 use Rattle.bag_algebra.specs.FaultFree.{items_faultless}
 use Rattle.bag_algebra.specs.Inputs.{inputs_of}
-use Rattle.bag_algebra.specs.Kinds.{kinds_of}
+use Rattle.bag_algebra.specs.Kinds.{kinds_of, item_kinds}
 use Rattle.bag_algebra.specs.Meaning.{meaning, items_on}
 use Rattle.bag_algebra.specs.Means.{no_subs}
 use Rattle.bag_algebra.specs.Outcome.{Outcome, Good, Bad, and_then, both, each}
@@ -22,7 +22,6 @@ use Rattle.bag_algebra.specs.declared.query.Sublink.{Sublink}
 use Rattle.contribution.proofs.ColumnQueries.{all-nothing, all-first}
 use Rattle.contribution.proofs.QueryKinds.{each-all}
 use Rattle.contribution.proofs.WhereGood.{Each}
-use Rattle.contribution.specs.ItemKinds.{item_kinds}
 use Rattle.query_laws.proofs.SameExpressions.{items-themselves}
 use Rattle.query_laws.proofs.StandingNodes.{stands-Project}
 use Rattle.query_laws.specs.Standing.{SubsStand}

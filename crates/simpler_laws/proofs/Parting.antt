@@ -5,7 +5,7 @@ use Rattle.std.proofs.lemmas.Bool.Decides.{nat_tests}
 use Rattle.std.proofs.lemmas.List.{map-append}
 use Rattle.std.proofs.lemmas.List.Elements.{All-append}
 use Rattle.std.specs.List.{list_all, range_with_len}
-use Rattle.perm_values.specs.Rows.{picked, value_at}
+use Rattle.perm_values.specs.Rows.{picked, value_at, PlacesWithin}
 use Rattle.perm_values.specs.declared.kind.Kind.{Kind}
 use Rattle.perm_values.specs.declared.kind.Kind.TheVariants as kind
 use Rattle.perm_values.specs.declared.value.Value.TheVariants.{Null}
@@ -16,7 +16,7 @@ use Rattle.bag_algebra.specs.FaultFree.{faultless}
 use Rattle.bag_algebra.specs.Kinds.{kind_in, kinds_in}
 use Rattle.bag_algebra.specs.Means.{is_met}
 use Rattle.bag_algebra.specs.Outcome.{Good}
-use Rattle.bag_algebra.specs.WellFormed.{HasKind, PlacesIn}
+use Rattle.bag_algebra.specs.WellFormed.{HasKind}
 use Rattle.bag_algebra.specs.built.FaultFree.{all_parts_faultless}
 use Rattle.bag_algebra.specs.built.Forms.{AllHave}
 use Rattle.bag_algebra.specs.declared.expr.Expr.{Expr}
@@ -160,11 +160,11 @@ length-zeros : {X : Type 0} (f : ℕ → X) (n : ℕ) → length (map f (zeros n
 length-zeros f zero = refl
 length-zeros f (suc n) = ap suc (length-zeros f n)
 
-zeros-within : (n width : ℕ) → 0 < width → PlacesIn width (zeros n)
+zeros-within : (n width : ℕ) → 0 < width → PlacesWithin width (zeros n)
 zeros-within zero width h = all-nothing (λ place. place < width)
 zeros-within (suc n) width h = all-first (λ place. place < width) 0 (zeros n) h (zeros-within n width h)
 
-pub right-within : (left right : ℕ) → 0 < right → PlacesIn right (right_places left right)
+pub right-within : (left right : ℕ) → 0 < right → PlacesWithin right (right_places left right)
 right-within left right h = All-append (λ place. place < right) (zeros left) (range_with_len 0 right) (zeros-within left right h) (within-range right 0 right (omega arith))
 
 -- ---- tests that one side decides

@@ -19,6 +19,7 @@ use Rattle.bag_algebra.specs.Bags.{Row}
 use Rattle.bag_algebra.specs.built.Openings.{row_of_parts, row_of_steps, row_of_arms, shape_of_steps, shape_of_arms, Chain-is, Case-is, IsNull-is, IsTruth-is, Same-is}
 use Rattle.bag_algebra.specs.Expressions.{value, values, step_values, arm_value, Step, operate, chain, has_truth, chosen_arm}
 use Rattle.bag_algebra.specs.FaultFree.{faultless, items_faultless}
+use Rattle.bag_algebra.specs.Kinds.{item_kinds}
 use Rattle.bag_algebra.specs.Means.{good_value}
 use Rattle.bag_algebra.specs.Outcome.{Outcome, Good, Bad, is_good, and_then, mapped, both, both_then}
 use Rattle.bag_algebra.specs.built.Patterns.{ChainOf, CaseOf, IsNullOf, IsTruthOf, SameOf}
@@ -31,7 +32,6 @@ use Rattle.bag_algebra.specs.declared.expr.Expr.TheVariants.{Col, Lit, Op, Chain
 use Rattle.bag_algebra.specs.declared.expr.Item.{Item}
 use Rattle.contribution.proofs.QueryKinds.{each-all}
 use Rattle.contribution.proofs.WhereGood.{Each}
-use Rattle.contribution.specs.ItemKinds.{item_kinds}
 use Rattle.std.proofs.Common.{true≢false}
 use Rattle.simpler_laws.specs.merged.Substituted.{row_of_items, IsSubstituted, PartsSubstituted, StepsSubstituted, ArmsSubstituted}
 

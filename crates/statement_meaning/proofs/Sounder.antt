@@ -3,7 +3,7 @@ use Rattle.std.proofs.Common.{◌≡◌, ◌∙◌, ℕ, Bool, true, List, [], �
 use Rattle.std.proofs.lemmas.Bool.{and_from}
 use Rattle.std.specs.List.{count_by}
 use Rattle.std.specs.Option.{option_map_or}
-use Rattle.perm_values.specs.Rows.{row_fits, bag_fits, printed_cmp}
+use Rattle.perm_values.specs.Rows.{row_fits, bag_fits, printed_cmp, PlacesWithin}
 use Rattle.perm_values.specs.Values.{fits}
 use Rattle.perm_values.specs.declared.kind.Kind.{Kind}
 use Rattle.bag_algebra.proofs.SortedBags.{same_bag-sorted}
@@ -15,7 +15,7 @@ use Rattle.bag_algebra.specs.Outcome.{Outcome, Good, Bad, each}
 use Rattle.bag_algebra.specs.Rewriting.{SameRows}
 use Rattle.bag_algebra.specs.TableRows.{rows_in}
 use Rattle.bag_algebra.specs.TablesRead.{EachTable}
-use Rattle.bag_algebra.specs.WellFormed.{PlacesIn, WellFormed}
+use Rattle.bag_algebra.specs.WellFormed.{WellFormed}
 use Rattle.bag_algebra.specs.built.Patterns.{ProvOf}
 use Rattle.bag_algebra.specs.declared.expr.Expr.{Expr}
 use Rattle.bag_algebra.specs.declared.query.Answer.{Answer}
@@ -99,7 +99,7 @@ MarkHolds c columns rows places query = IsSoundMark c columns rows (mark_of c qu
 abbrev pub NewMark : Type 0
 NewMark = (c : Contents) (columns : List Column) (rows : Bag) (input : Query) (places : List ℕ) → IsSound c
     → WellFormed [] (ProvOf input) → EachTable (IsHeldTable c) (ProvOf input)
-    → kinds_of (ProvOf input) ≡ column_kinds columns → PlacesIn (length columns) places
+    → kinds_of (ProvOf input) ≡ column_kinds columns → PlacesWithin (length columns) places
     → SameRows (meaning (ProvOf input) (rows_in c.rows) []) (Good rows) → MarkHolds c columns rows places (ProvOf input)
 
 module _ (new_mark : NewMark) (c : Contents) (sound : IsSound c) where

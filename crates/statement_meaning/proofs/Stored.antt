@@ -5,10 +5,10 @@ use Rattle.std.specs.Cmp.Lexicographic.{pointwise}
 use Rattle.std.specs.List.{All, AllByRecursion, IsDistinct, list_any}
 use Rattle.std.specs.Option.{option_map_or}
 use Rattle.std.specs.Prelude.{nat_eq, ℤ}
+use Rattle.perm_values.specs.Rows.{PlacesWithin}
 use Rattle.perm_values.specs.declared.kind.Kind.{Kind}
 use Rattle.perm_values.specs.declared.kind.Kind.TheVariants as kind
 use Rattle.bag_algebra.specs.Kinds.{kinds_of, width_of}
-use Rattle.bag_algebra.specs.WellFormed.{PlacesIn}
 use Rattle.bag_algebra.specs.built.Openings.{Prov-is}
 use Rattle.bag_algebra.specs.built.Patterns.{ProvOf}
 use Rattle.bag_algebra.specs.declared.query.Query.{Query}
@@ -108,10 +108,10 @@ asks-seen around at body order limit =
     asks-by (asks_provenance around body) at (body.means around) (body.means around) order limit
 
 asks-at : (columns : List Column) (query : Query) (width : ℕ) (places : Option (List ℕ)) → width ≡ length columns
-    → IfSome places (λ (there : List ℕ). Asks query) → IfSome places (PlacesIn width) → IfSome places (AsksAt columns query)
+    → IfSome places (λ (there : List ℕ). Asks query) → IfSome places (PlacesWithin width) → IfSome places (AsksAt columns query)
 asks-at columns query width None same asks within = tt
 asks-at columns query width (Some places) same asks within =
-    record { input = asks.0; asks = asks.1; within = subst (λ (n : ℕ). PlacesIn n places) same within }
+    record { input = asks.0; asks = asks.1; within = subst (λ (n : ℕ). PlacesWithin n places) same within }
 
 module _ (c : Contents) (sound : IsSound c) (table : Name) (tree : QueryTree) (regular : RegularQuery tree)
     (whole : name_breaks c (st.CreateTableAs table tree) ≡ []) where

@@ -5,6 +5,7 @@ use Rattle.std.proofs.lemmas.Option.{same_Some}
 use Rattle.std.specs.Prelude.{All, Contains, slice_index_or}
 use Rattle.std.specs.List.{flat_map}
 use Rattle.std.specs.Option.{option_map_or}
+use Rattle.perm_values.specs.Rows.{PlacesWithin}
 use Rattle.perm_values.specs.declared.kind.Kind.{Kind}
 use Rattle.bag_algebra.proofs.TablesRead.{each_table-both, each_table-kept, reads_among-itself}
 use Rattle.bag_algebra.specs.Bags.{Bag, Row}
@@ -14,7 +15,7 @@ use Rattle.bag_algebra.specs.Outcome.{Good}
 use Rattle.bag_algebra.specs.Rewriting.{SameRows}
 use Rattle.bag_algebra.specs.TableRows.{rows_in}
 use Rattle.bag_algebra.specs.TablesRead.{TableRead, tables_read, EachTable}
-use Rattle.bag_algebra.specs.WellFormed.{WellFormed, PlacesIn}
+use Rattle.bag_algebra.specs.WellFormed.{WellFormed}
 use Rattle.bag_algebra.specs.built.Patterns.{ProvOf}
 use Rattle.bag_algebra.specs.declared.query.Query.{Query}
 use Rattle.perm_catalog.specs.Changes.{table_named}
@@ -149,7 +150,7 @@ module _ (c : Contents) (sound : IsSound c) where
       (all-flat (λ kept. is_unchanged c kept ≡ true) (kept_read c) (each_once (tables_read query)) (λ read. unchanged-by read (entry_of_id c read.id) refl))
 
   pub new-sound : (columns : List Column) (rows : Bag) (input : Query) (places : List ℕ) → WellFormed [] (ProvOf input) →
-      EachTable (IsHeldTable c) (ProvOf input) → kinds_of (ProvOf input) ≡ column_kinds columns → PlacesIn (length columns) places →
+      EachTable (IsHeldTable c) (ProvOf input) → kinds_of (ProvOf input) ≡ column_kinds columns → PlacesWithin (length columns) places →
       SameRows (meaning (ProvOf input) (rows_in c.rows) []) (Good rows) → IsSoundMark c columns rows (mark_of c (ProvOf input) places)
   new-sound columns rows input places closed held kinds within same = record {
     input = input;

@@ -1,7 +1,7 @@
 //! Projections, filters and joins without sublinks.
 ghost use Rattle.std.specs.Prelude.{◌≡◌, ◌&&◌, ◌++◌, [], ◌∷◌, List, IfOk};
 ghost use Rattle.bag_algebra.specs.Bags.{Row};
-ghost use Rattle.bag_algebra.specs.Kinds.{kinds_of, width_of};
+ghost use Rattle.bag_algebra.specs.Kinds.{kinds_of, width_of, item_kinds};
 ghost use Rattle.bag_algebra.specs.Meaning.{Database, meaning, condition_on, items_on};
 ghost use Rattle.bag_algebra.specs.Means.{no_subs, kept, joined_rows};
 ghost use Rattle.bag_algebra.specs.Outcome.{and_then, both_then, each, gather};
@@ -12,7 +12,6 @@ ghost use Rattle.bag_algebra.specs.WellFormed.{WellFormed, HasKind, ItemsForm};
 ghost use Rattle.bag_algebra.specs.declared.query.Query.{end_of-Sublink};
 ghost use Rattle.perm_values.specs.declared.kind.Kind.{Kind};
 ghost use Rattle.perm_values.specs.declared.kind.Kind.TheVariants.{Boolean};
-ghost use Rattle.contribution.specs.ItemKinds.{item_kinds};
 
 use bag_algebra::{Expr, Item, JoinKind, Query};
 use perm_values::{List, NoMemory};

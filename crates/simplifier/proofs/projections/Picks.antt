@@ -1,7 +1,7 @@
 -- A query as columns of another: in what that one's rows, kinds and tables are its own.
 use Rattle.std.proofs.Common.{◌≡◌, ℕ, Bool, true, false, List, [], ◌∷◌, map, length, append-nil, refl, sym, ap, ◌∙◌, subst, arith}
 use Rattle.std.specs.List.{range_with_len}
-use Rattle.perm_values.specs.Rows.{picked}
+use Rattle.perm_values.specs.Rows.{picked, PlacesWithin}
 use Rattle.perm_values.specs.declared.kind.Kind.{Kind}
 use Rattle.perm_values.specs.declared.kind.Kind.TheVariants.{Text}
 use Rattle.perm_values.specs.declared.value.Value.TheVariants.{Null}
@@ -13,7 +13,7 @@ use Rattle.bag_algebra.specs.Meaning.{Database, meaning}
 use Rattle.bag_algebra.specs.Outcome.{Outcome, Good, Bad, mapped}
 use Rattle.bag_algebra.specs.Rewriting.{is_plain}
 use Rattle.bag_algebra.specs.TablesRead.{EachTable}
-use Rattle.bag_algebra.specs.WellFormed.{HasKind, PlacesIn, WellFormed}
+use Rattle.bag_algebra.specs.WellFormed.{HasKind, WellFormed}
 use Rattle.bag_algebra.specs.built.Forms.{EachTable-Project, WellFormed-Project}
 use Rattle.bag_algebra.specs.built.Openings.{kinds_of-Project}
 use Rattle.bag_algebra.specs.built.Scopes.{is_plain-Project}
@@ -36,7 +36,7 @@ pub record Picks (query under : Query) (places : List ℕ) : Type 1 where
   pub tables : (P : ℕ → List Kind → Type 0) → EachTable P query → EachTable P under
   pub formed : (outer : List (List Kind)) → WellFormed outer query → WellFormed outer under
   pub kinds : (outer : List (List Kind)) → WellFormed outer query → kinds_of query ≡ kinds_in (kinds_of under) places
-  pub within : (outer : List (List Kind)) → WellFormed outer query → PlacesIn (width_of under) places
+  pub within : (outer : List (List Kind)) → WellFormed outer query → PlacesWithin (width_of under) places
   pub rows : (outer : List (List Kind)) (db : Database) (env : List Row) → WellFormed outer query → TablesFit db query → env_fits env outer ≡ true →
       meaning query db env ≡ mapped (map (picked places)) (meaning under db env)
 

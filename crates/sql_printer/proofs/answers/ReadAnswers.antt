@@ -7,7 +7,7 @@ use Rattle.perm_values.specs.declared.key.Key.{Key}
 use Rattle.perm_values.specs.declared.kind.Kind.{Kind}
 use Rattle.bag_algebra.specs.Kinds.{kinds_of}
 use Rattle.bag_algebra.specs.TablesRead.{EachTable}
-use Rattle.bag_algebra.specs.WellFormed.{KeysIn, WellFormed}
+use Rattle.bag_algebra.specs.WellFormed.{WellFormed}
 use Rattle.bag_algebra.specs.declared.expr.Expr.TheVariants.{Col}
 use Rattle.bag_algebra.specs.declared.query.Query.{Query}
 use Rattle.perm_catalog.specs.Contents.{Contents}
@@ -106,7 +106,7 @@ module _ (c : Contents) (tables : List TableNames) (q : Query) (kind : Kind) (mo
         whole = shown_list;
       }) tree d
 
-  pub answer-read : (names : List (List ℕ)) (keys : List Key) → length names ≡ length own → KeysIn (length names) keys → (tree : QueryTree)
+  pub answer-read : (names : List (List ℕ)) (keys : List Key) → length names ≡ length own → KeysWithin (length names) keys → (tree : QueryTree)
       → IsQuery (shown_answer tables q names keys) tree
       → IsReadAs c tree (record { query = printed_answer (source_in c tables) q; names = names; keys = keys })
   unfolding query_means_at
