@@ -1,5 +1,5 @@
 -- Laws of bags: counts, membership, each row once, and bags that are permutations of one another.
-use Rattle.std.proofs.Common.{◌≡◌, ℕ, zero, suc, ◌+◌, ◌<◌, Bool, true, false, cond, not, ◌&&◌, ◌||◌, List, [], ◌∷◌, ◌++◌, map, filter, flat_map, sum_by, Decides, IsPermutation, length, refl, sym, ap, ◌∙◌, subst, arith, true≢false}
+use Rattle.std.proofs.Common.{◌≡◌, ℕ, zero, suc, ◌+◌, ◌<◌, ◌≤◌, Bool, true, false, cond, not, ◌&&◌, ◌||◌, List, [], ◌∷◌, ◌++◌, map, filter, flat_map, sum_by, Decides, IsPermutation, length, refl, sym, ap, ◌∙◌, subst, arith, true≢false}
 use Rattle.std.proofs.lemmas.List.Sums.{sum_by-cons}
 use Rattle.std.proofs.lemmas.List.Sorted.{IsPermutation-refl, IsPermutation-cons, IsPermutation-trans, IsPermutation-swap, sum_by-IsPermutation}
 use Rattle.std.specs.Cmp.{decided}
@@ -117,7 +117,7 @@ and_true : (b : Bool) → b ≡ (b && true)
 and_true true = refl
 and_true false = refl
 
-and_false : (b : Bool) → false ≡ (b && false)
+pub and_false : (b : Bool) → false ≡ (b && false)
 and_false true = refl
 and_false false = refl
 
@@ -147,6 +147,10 @@ count-others t u us = count-filter t (λ v. not (same_row u v)) us ∙ turned_co
 step_once : (b m : Bool) (n k : ℕ) → n ≡ cond b 0 k → k ≡ cond m 1 0 → cond b (suc n) n ≡ cond (b || m) 1 0
 step_once true m n k e f = ap suc e
 step_once false m n k e f = e ∙ f
+
+pub at_most_one : (b : Bool) → cond b 1 0 ≤ 1
+at_most_one true = omega arith
+at_most_one false = omega arith
 
 pub count-once : (t : Row) (us : Bag) → count t (once us) ≡ cond (member t us) 1 0
 count-once t [] = refl

@@ -26,21 +26,21 @@ use Rattle.bag_algebra.proofs.Truths.{left-true, right-true}
 
 -- ---- outcomes
 
-good-and_then : {X Y : Type 0} (a : Outcome X) (next : X → Outcome Y) → is_good a ≡ true → ((x : X) → is_good (next x) ≡ true) → is_good (and_then a next) ≡ true
+pub good-and_then : {X Y : Type 0} (a : Outcome X) (next : X → Outcome Y) → is_good a ≡ true → ((x : X) → is_good (next x) ≡ true) → is_good (and_then a next) ≡ true
 good-and_then (Good x) next h more = more x
 good-and_then (Bad f) next h more = h
 
-good-mapped : {X Y : Type 0} (f : X → Y) (a : Outcome X) → is_good a ≡ true → is_good (mapped f a) ≡ true
+pub good-mapped : {X Y : Type 0} (f : X → Y) (a : Outcome X) → is_good a ≡ true → is_good (mapped f a) ≡ true
 good-mapped f (Good x) h = refl
 good-mapped f (Bad g) h = h
 
-good-both : {X Y Z : Type 0} (f : X → Y → Z) (a : Outcome X) (b : Outcome Y) → is_good a ≡ true → is_good b ≡ true → is_good (both f a b) ≡ true
+pub good-both : {X Y Z : Type 0} (f : X → Y → Z) (a : Outcome X) (b : Outcome Y) → is_good a ≡ true → is_good b ≡ true → is_good (both f a b) ≡ true
 good-both f (Good x) (Good y) h k = refl
 good-both f (Good x) (Bad g) h k = k
 good-both f (Bad g) (Good y) h k = h
 good-both f (Bad g) (Bad g') h k = h
 
-good-both_then : {X Y Z : Type 0} (a : Outcome X) (b : Outcome Y) (next : X → Y → Outcome Z) → is_good a ≡ true → is_good b ≡ true →
+pub good-both_then : {X Y Z : Type 0} (a : Outcome X) (b : Outcome Y) (next : X → Y → Outcome Z) → is_good a ≡ true → is_good b ≡ true →
     ((x : X) (y : Y) → is_good (next x y) ≡ true) → is_good (both_then a b next) ≡ true
 good-both_then (Good x) (Good y) next h k more = more x y
 good-both_then (Good x) (Bad g) next h k more = k
@@ -129,7 +129,7 @@ mutual
       (λ c. good-cond _ (value arm u env subs) (arm_value arms u env subs otherwise) (good-value arm (right-true (faultless condition) _ own) u env subs)
       (good-arms arms (right-true (faultless condition && faultless arm) _ w) u env subs otherwise h))
 
-good-option : (part : Option Expr) → option_faultless part ≡ true → (env : List Row) (u : Row) → is_good (optional_value part env u) ≡ true
+pub good-option : (part : Option Expr) → option_faultless part ≡ true → (env : List Row) (u : Row) → is_good (optional_value part env u) ≡ true
 good-option None w env u = refl
 good-option (Some part) w env u = good-value part w u env []
 
@@ -174,7 +174,7 @@ good-joined kind condition all left_width right_width us vs =
     good-mapped _ (met_pairs condition us vs)
     (good-gather _ (λ u. good-gather (λ v. kept condition (u ++ v)) (λ v. good-mapped _ (condition (u ++ v)) (all (u ++ v))) vs) us)
 
-good-sub : (kind : SubKind) (x : Value) (bag : Bag) → not (is_scalar kind) ≡ true → is_good (sub_value kind x bag) ≡ true
+pub good-sub : (kind : SubKind) (x : Value) (bag : Bag) → not (is_scalar kind) ≡ true → is_good (sub_value kind x bag) ≡ true
 good-sub sub.Exists x bag w = refl
 good-sub (sub.Any c) x bag w = refl
 good-sub (sub.All c) x bag w = refl

@@ -12,6 +12,14 @@ pub right-true : (a b : Bool) → (a && b) ≡ true → b ≡ true
 right-true true b h = h
 right-true false b h = absurd (true≢false (sym h))
 
+pub left-false : (a b : Bool) → (a || b) ≡ false → a ≡ false
+left-false true b h = absurd (true≢false h)
+left-false false b h = refl
+
+pub right-false : (a b : Bool) → (a || b) ≡ false → b ≡ false
+right-false true b h = absurd (true≢false h)
+right-false false b h = h
+
 pub and_true : (b : Bool) → (b && true) ≡ b
 and_true true = refl
 and_true false = refl

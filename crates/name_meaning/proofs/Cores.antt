@@ -14,6 +14,7 @@ use Rattle.bag_algebra.specs.declared.query.Aggr.{Aggr}
 use Rattle.bag_algebra.specs.declared.query.Query.{Query}
 use Rattle.bag_algebra.specs.declared.query.Query.TheVariants.{Project, Aggregate}
 use Rattle.sql_tree.specs.declared.name.ColRef.{ColRef}
+use Rattle.bag_algebra.proofs.Truths.{left-false, right-false}
 use Rattle.name_meaning.specs.Cores.{settle_known, optional_built, group_break, group_place, group_scope, is_grouped, filtered, distinct_if, core_query, Clauses, list_columns, before_list, clauses_query, core_clauses, clause_breaks}
 use Rattle.name_meaning.specs.Froms.{FromMeant, condition_breaks, in_clause, optional_meant, optional_breaks}
 use Rattle.name_meaning.specs.Items.{Made, SelectPart, made_items, items_breaks}
@@ -32,7 +33,7 @@ use Rattle.name_meaning.proofs.Items.{IsFormedList, GoodItem, good-list, plain-l
 use Rattle.name_meaning.proofs.Needs.{settled-of_kind}
 use Rattle.name_meaning.proofs.Standing.{stand-whole, aggregates-append}
 use Rattle.name_meaning.specs.declared.rule.Rule.TheVariants as rule
-use Rattle.name_meaning.proofs.Every.{front-none, back-none, whole-kind, left-false, right-false, unbroken}
+use Rattle.name_meaning.proofs.Every.{front-none, back-none, whole-kind, unbroken}
 
 pub by : {A B : Type 0} → A ≡ B → A → B
 by e h = subst (λ (X : Type 0). X) e h

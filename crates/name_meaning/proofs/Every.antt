@@ -1,5 +1,5 @@
 -- What holds of each of a list, and lists that are empty in all their parts.
-use Rattle.std.specs.Prelude.{◌≡◌, ⊤, true, cond, None, List, [], ◌∷◌, ◌++◌, map, Bool, false, ◌||◌, ℕ, not}
+use Rattle.std.specs.Prelude.{◌≡◌, ⊤, true, cond, None, List, [], ◌∷◌, ◌++◌, map, Bool, false, ℕ, not}
 use Rattle.std.proofs.Common.{refl, ap, sym, true≢false}
 use Rattle.std.specs.List.{flat_map}
 use Rattle.name_meaning.specs.Meanings.{Meant, is_whole, seen_kind, broken_if}
@@ -56,13 +56,3 @@ unbroken false which at e = cc e
 pub unbroken-not : (b : Bool) (which : Rule) (at : ℕ) → broken_if b which at ≡ [] → b ≡ false
 unbroken-not true which at e = cc e
 unbroken-not false which at e = refl
-
--- ---- what is false whole is false in its parts
-
-pub left-false : (a b : Bool) → (a || b) ≡ false → a ≡ false
-left-false true b h = absurd (true≢false h)
-left-false false b h = refl
-
-pub right-false : (a b : Bool) → (a || b) ≡ false → b ≡ false
-right-false true b h = absurd (true≢false h)
-right-false false b h = h

@@ -28,6 +28,7 @@ use Rattle.name_seen_parts.specs.declared.refusal.Refusal.{Refusal}
 use Rattle.name_seen_parts.specs.declared.refusal.Refusal.TheVariants.{Break as Broken, NoMemory}
 use Rattle.name_seen_parts.specs.Told.{Tells}
 use Rattle.std.proofs.Math.ListN.{drop_of_length-le}
+use Rattle.bag_algebra.proofs.Truths.{left-false, right-false}
 use Rattle.name_seen_parts.specs.Columns.{columns_of}
 use Rattle.name_seen_parts.specs.declared.clauses.column.ShownColumn.{ShownColumn}
 use Rattle.name_seen_parts.proofs.Firsts.{dropped, first-stays, flat-first}
@@ -134,14 +135,6 @@ pub shown-behind : (columns : List ShownColumn) (at : ℕ) (column : ShownColumn
 shown-behind columns at column keys within e are =
     ap (λ (names : List (List ℕ)). names ++ column.name ∷ []) are ∙ sym (shown-append (take at columns) (column ∷ []))
     ∙ ap shown_names (sym (one_more columns at column within e))
-
-left-false : (a b : Bool) → (a || b) ≡ false → a ≡ false
-left-false true b e = e
-left-false false b e = refl
-
-right-false : (a b : Bool) → (a || b) ≡ false → b ≡ false
-right-false true b e = absurd (true≢false e)
-right-false false b e = e
 
 named-back : (a b : List ℕ) → named_so a b ≡ true → named_so b a ≡ true
 named-back a b e = (bytes_decides b a).1 (sym ((bytes_decides a b).0 e))

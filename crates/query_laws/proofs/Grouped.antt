@@ -7,7 +7,7 @@ use Rattle.null_logic.specs.declared.run_fault.RunFault.{RunFault}
 use Rattle.null_logic.specs.declared.run_fault.RunFault.TheVariants.{OutOfRange}
 use Rattle.perm_values.specs.Rows.{same_row, value_at, picked}
 use Rattle.perm_values.specs.declared.value.Value.{Value}
-use Rattle.bag_algebra.proofs.BagLaws.{same_row-is, same_row-refl, count-filter, count-once, member-once}
+use Rattle.bag_algebra.proofs.BagLaws.{same_row-is, same_row-refl, count-filter, count-once, member-once, at_most_one}
 use Rattle.bag_algebra.proofs.Members.{IsIn, in-map, from-map, in-member, member-in}
 use Rattle.bag_algebra.specs.Bags.{Row, Bag, count, member, once}
 use Rattle.bag_algebra.specs.Means.{gives, good_row, class_keys, class_of, class_row, aggregates_of, grouped}
@@ -18,7 +18,6 @@ use Rattle.query_laws.specs.Holding.{InBag, HoldsOnce}
 use Rattle.query_laws.specs.Nodes.{IsKey, class_values, IsClassRow, SumOverflows, IsGrouped}
 use Rattle.query_laws.proofs.Aggregates.{each_of, aggregates_of-is, each_of-good, each_of-meets, meets-each_of, each_of-gives, gives-each_of, good-meets}
 use Rattle.query_laws.proofs.Items.{each-in, from-each, each-long}
-use Rattle.query_laws.proofs.Once.{at_most_one}
 use Rattle.query_laws.proofs.Outcomes.{Over, over-each, over_rows, in_bag-in, in-in_bag, mapped-good, mapped-meets, meets-mapped, and_then-passes}
 use Rattle.query_laws.proofs.Projected.{given}
 use Rattle.query_laws.proofs.Sums.{count-sum, one_if}

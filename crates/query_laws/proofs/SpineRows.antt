@@ -1,15 +1,14 @@
 -- The rows of a spine's query under a row: what the items make of that row and each row of the base on which the test is true.
 use Rattle.std.proofs.Common.{◌≡◌, Bool, true, false, cond, ◌&&◌, List, [], ◌∷◌, ◌++◌, map, length, Option, Some, None, append-nil, refl, sym, ap, ◌∙◌, subst, arith}
 use Rattle.std.specs.List.{flat_map}
-use Rattle.null_logic.specs.Logic.{is_true, truth_and, truth_of, value_of}
+use Rattle.null_logic.specs.Logic.{truth_of}
 use Rattle.null_logic.specs.declared.operator.Operator.TheVariants.{And}
-use Rattle.null_logic.specs.declared.truth.Truth.{Truth}
-use Rattle.null_logic.specs.declared.truth.Truth.TheVariants.{True, False, Unknown}
 use Rattle.perm_values.specs.declared.kind.Kind.{Kind}
 use Rattle.perm_values.specs.declared.kind.Kind.TheVariants.{Boolean}
 use Rattle.perm_values.specs.declared.value.Value.{Value}
 use Rattle.bag_algebra.proofs.Members.{IsIn}
 use Rattle.bag_algebra.proofs.NeverBad.{good-value}
+use Rattle.bag_algebra.proofs.TruthValues.{holds-both}
 use Rattle.bag_algebra.specs.Bags.{Row, Bag}
 use Rattle.bag_algebra.specs.built.Openings.{value-Op}
 use Rattle.bag_algebra.specs.Expressions.{value, operate}
@@ -72,17 +71,6 @@ where_holds t o = mapped (λ v. cond (holds_of v) (t ∷ []) []) o
 abbrev pub spine_row : Spine → List Row → Row → Outcome Bag
 spine_row spine env x = where_holds (row_by spine.items env x) (value (test_of spine.test) x env [])
 
-both_hold : (a b : Truth) → is_true (truth_of (value_of (truth_and a (truth_and b True)))) ≡ (is_true a && is_true b)
-both_hold True True = refl
-both_hold True False = refl
-both_hold True Unknown = refl
-both_hold False True = refl
-both_hold False False = refl
-both_hold False Unknown = refl
-both_hold Unknown True = refl
-both_hold Unknown False = refl
-both_hold Unknown Unknown = refl
-
 kept-twice : (t : Row) (h : Row → Bag) (a b : Bool) → h t ≡ cond b (t ∷ []) [] → flat_map h (cond a (t ∷ []) []) ≡ cond (a && b) (t ∷ []) []
 kept-twice t h true b e = append-nil (h t) ∙ e
 kept-twice t h false b e = refl
@@ -94,7 +82,7 @@ both_tests test other x env t y h e made =
     by_test (value test x env []) ∙ ap (where_holds t) (sym (value-Op x env [] And (test ∷ other ∷ []) ∙ ap (λ o. and_then (both (λ v vs. v ∷ vs) (value test x env []) (both (λ v vs. v ∷ vs) o (Good []))) (operate And)) e)) where
       by_test : (o : Outcome Value) → mapped (flat_map h) (where_holds t o) ≡ where_holds t (and_then (both (λ v vs. v ∷ vs) o (Good (y ∷ []))) (operate And))
       by_test (Good v) =
-          ap Good (kept-twice t h (holds_of v) (holds_of y) made ∙ ap (λ b. cond b (t ∷ []) []) (sym (both_hold (truth_of v) (truth_of y))))
+          ap Good (kept-twice t h (holds_of v) (holds_of y) made ∙ ap (λ b. cond b (t ∷ []) []) (sym (holds-both (truth_of v) (truth_of y))))
       by_test (Bad faults) = refl
 
 good_value-is : (o : Outcome Value) → is_good o ≡ true → o ≡ Good (good_value o)

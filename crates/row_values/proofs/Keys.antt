@@ -6,7 +6,7 @@ use Rattle.std.proofs.lemmas.Option.{slice_get_within, same_Some}
 use Rattle.std.specs.List.{list_any, slice_get}
 use Rattle.indexmap.specs.IndexSet.{insert_key}
 use Rattle.perm_values.specs.Rows.{same_row, picked}
-use Rattle.bag_algebra.proofs.BagLaws.{same_row-is, same_row-refl, same_row-sym, member-once, count-once}
+use Rattle.bag_algebra.proofs.BagLaws.{same_row-is, same_row-refl, same_row-sym, member-once, count-once, at_most_one}
 use Rattle.bag_algebra.specs.Bags.{Row, Bag, count, member, once}
 use Rattle.bag_algebra.specs.Means.{class_keys, class_of}
 use Rattle.row_values.specs.Groups.{IsClassed, numbered}
@@ -83,10 +83,6 @@ numbers_within groups us keys numbers c = each numbers us c.found
     each (n ∷ ns) (v ∷ vs) e (suc i) d low = each ns vs (same_tail _ _ _ _ e) i d (omega arith)
 
 -- ---- each key stands at one place
-
-at_most_one : (b : Bool) → cond b 1 0 ≤ 1
-at_most_one true = omega arith
-at_most_one false = omega arith
 
 pub once-keys : (groups : List ℕ) (us : Bag) (key : Row) → count key (class_keys groups us) ≤ 1
 once-keys [] us key = at_most_one (same_row [] key)

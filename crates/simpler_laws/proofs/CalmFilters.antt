@@ -1,12 +1,12 @@
 -- A filter with sublinks that can't fault: its conjuncts that need no sublink are tests below it.
-use Rattle.std.proofs.Common.{◌≡◌, ℕ, Bool, true, false, cond, not, ◌&&◌, ◌-◌, ◌^◌, List, [], ◌∷◌, ◌++◌, filter, Option, Some, None, refl, sym, ap, ◌∙◌, subst, true≢false}
+use Rattle.std.proofs.Common.{◌≡◌, ℕ, Bool, true, false, cond, not, ◌&&◌, ◌-◌, ◌^◌, List, [], ◌∷◌, ◌++◌, filter, refl, sym, ap, ◌∙◌, subst, true≢false}
 use Rattle.std.proofs.lemmas.List.Folds.{list_all-append}
 use Rattle.std.specs.List.{list_all}
 use Rattle.std.proofs.lemmas.Bool.{and_from}
 use Rattle.perm_values.specs.declared.kind.Kind.{Kind}
 use Rattle.perm_values.specs.declared.kind.Kind.TheVariants as kind
 use Rattle.perm_values.specs.declared.value.Value.{Value}
-use Rattle.bag_algebra.proofs.NeverBad.{good-query, good-value}
+use Rattle.bag_algebra.proofs.NeverBad.{good-query, good-value, good-both, good-option}
 use Rattle.bag_algebra.proofs.Truths.{left-true, right-true, both-true}
 use Rattle.bag_algebra.specs.Bags.{Row, Bag}
 use Rattle.bag_algebra.specs.Children.{subs_denote}
@@ -16,7 +16,7 @@ use Rattle.bag_algebra.specs.Fits.{TablesFit, env_fits}
 use Rattle.bag_algebra.specs.Kinds.{kinds_of}
 use Rattle.bag_algebra.specs.Meaning.{Database, meaning, condition_on, optional_value}
 use Rattle.bag_algebra.specs.Means.{is_met, sub_value}
-use Rattle.bag_algebra.specs.Outcome.{Outcome, Good, Bad, is_good, and_then, mapped, both, both_then}
+use Rattle.bag_algebra.specs.Outcome.{Outcome, Good, Bad, is_good, and_then, mapped, both_then}
 use Rattle.bag_algebra.specs.Rewriting.{is_plain, Stands}
 use Rattle.bag_algebra.specs.TablesRead.{EachTable}
 use Rattle.bag_algebra.specs.WellFormed.{HasKind, WellFormed}
@@ -45,12 +45,6 @@ use Rattle.simpler_laws.specs.declared.filters.Parts.{Parts}
 
 -- ---- sublinks that can't fault
 
-good-both : {X Y Z : Type 0} (f : X → Y → Z) (a : Outcome X) (b : Outcome Y) → is_good a ≡ true → is_good b ≡ true → is_good (both f a b) ≡ true
-good-both f (Good x) (Good y) h k = refl
-good-both f (Good x) (Bad g) h k = k
-good-both f (Bad g) (Good y) h k = h
-good-both f (Bad g) (Bad l) h k = h
-
 good-sub : (kind : SubKind) (o : Outcome Value) (p : Outcome Bag) → not (is_scalar kind) ≡ true → is_good o ≡ true → is_good p ≡ true →
     is_good (both_then o p (sub_value kind)) ≡ true
 good-sub sub.Exists (Good x) (Good bag) w h k = refl
@@ -60,10 +54,6 @@ good-sub sub.Scalar (Good x) (Good bag) w h k = absurd (true≢false (sym w))
 good-sub kind (Good x) (Bad g) w h k = absurd (true≢false (sym k))
 good-sub kind (Bad g) (Good bag) w h k = absurd (true≢false (sym h))
 good-sub kind (Bad g) (Bad l) w h k = absurd (true≢false (sym h))
-
-good-option : (part : Option Expr) → option_faultless part ≡ true → (env : List Row) (u : Row) → is_good (optional_value part env u) ≡ true
-good-option None w env u = refl
-good-option (Some part) w env u = good-value part w u env []
 
 good-answers : (subs : List Sublink) → all_fault_free subs ≡ true → (db : Database) (env : List Row) (u : Row) → is_good ((subs_denote subs db env).answers u) ≡ true
 good-answers [] w db env u = refl

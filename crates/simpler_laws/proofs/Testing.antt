@@ -1,5 +1,5 @@
 -- Tests taken together are true where each is; so are the conjuncts of a condition.
-use Rattle.std.proofs.Common.{◌≡◌, ◌≤◌, ℕ, Bool, true, false, cond, not, ◌&&◌, List, [], ◌∷◌, ◌++◌, length, refl, sym, ap, subst, ◌∙◌, true≢false, arith}
+use Rattle.std.proofs.Common.{◌≡◌, ◌≤◌, ℕ, true, false, cond, not, ◌&&◌, List, [], ◌∷◌, ◌++◌, length, refl, sym, ap, subst, ◌∙◌, true≢false, arith}
 use Rattle.std.proofs.lemmas.List.Folds.{list_all-append}
 use Rattle.std.specs.Prelude.{⊤}
 use Rattle.null_logic.specs.Logic.{truth_and, truth_of, value_of, is_true}
@@ -11,6 +11,7 @@ use Rattle.perm_values.specs.declared.kind.Kind.{Kind}
 use Rattle.perm_values.specs.declared.kind.Kind.TheVariants as kind
 use Rattle.perm_values.specs.declared.value.Value.{Value}
 use Rattle.perm_values.specs.declared.value.Value.TheVariants.{Null, Integer, Text, Boolean}
+use Rattle.bag_algebra.proofs.BagLaws.{and_false}
 use Rattle.bag_algebra.proofs.Truths.{and_true, left-true, right-true, both-true}
 use Rattle.bag_algebra.specs.Bags.{Row}
 use Rattle.bag_algebra.specs.Children.{part_values}
@@ -41,10 +42,6 @@ and-truths False Unknown = refl
 and-truths Unknown True = refl
 and-truths Unknown False = refl
 and-truths Unknown Unknown = refl
-
-and_false : (b : Bool) → false ≡ (b && false)
-and_false true = refl
-and_false false = refl
 
 -- AND of one more part is true where the part is and AND of the others is
 and-step : (o : Outcome Value) (p : Outcome (List Value)) →

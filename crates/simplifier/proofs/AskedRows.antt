@@ -2,7 +2,7 @@
 use Rattle.std.proofs.Common.{◌≡◌, ◌≤◌, ◌<◌, Bool, true, false, cond, ◌&&◌, ◌||◌, List, [], ◌∷◌, ◌++◌, length, get_or, map, Option, Some, None, refl, sym, ap, ◌∙◌, subst, arith}
 use Rattle.std.specs.List.{list_any}
 use Rattle.null_logic.specs.Comparison.{compare_values, is_null}
-use Rattle.null_logic.specs.Logic.{is_true, truth_and, truth_of, value_of}
+use Rattle.null_logic.specs.Logic.{is_true, truth_of, value_of}
 use Rattle.null_logic.specs.declared.compare.Compare.{Compare}
 use Rattle.null_logic.specs.declared.operator.Operator.TheVariants as op
 use Rattle.null_logic.specs.declared.truth.Truth.{Truth}
@@ -11,6 +11,7 @@ use Rattle.perm_values.specs.declared.kind.Kind.{Kind}
 use Rattle.perm_values.specs.declared.value.Value.{Value}
 use Rattle.perm_values.specs.declared.value.Value.TheVariants.{Boolean, Null}
 use Rattle.bag_algebra.proofs.NeverBad.{good-value}
+use Rattle.bag_algebra.proofs.TruthValues.{holds-boolean, holds-truth, holds-both}
 use Rattle.bag_algebra.proofs.Truths.{left-true, right-true}
 use Rattle.bag_algebra.specs.Bags.{Row, Bag}
 use Rattle.bag_algebra.specs.Expressions.{operate, value}
@@ -46,26 +47,6 @@ only (y ∷ z ∷ xs) x h k e = absurd (omega (arith, k))
 pub good-is : {X : Type 0} (o : Outcome X) → is_good o ≡ true → (v : X) × (o ≡ Good v)
 good-is (Good v) e = (v, refl)
 good-is (Bad faults) e = absurd (cc e)
-
-holds-known : (t : Truth) → holds_of (value_of t) ≡ is_true t
-holds-known True = refl
-holds-known False = refl
-holds-known Unknown = refl
-
-holds-boolean : (b : Bool) → holds_of (Boolean b) ≡ b
-holds-boolean true = refl
-holds-boolean false = refl
-
-both-hold : (a b : Truth) → is_true (truth_of (value_of (truth_and a (truth_and b True)))) ≡ (is_true a && is_true b)
-both-hold True True = refl
-both-hold True False = refl
-both-hold True Unknown = refl
-both-hold False True = refl
-both-hold False False = refl
-both-hold False Unknown = refl
-both-hold Unknown True = refl
-both-hold Unknown False = refl
-both-hold Unknown Unknown = refl
 
 some-is : (ts : List Truth) → is_true (some_of ts) ≡ list_any is_true ts
 some-is ts = by_some (list_any is_true ts) where
@@ -132,7 +113,7 @@ any-holds : (c : Compare) (x : Value) (rows : Outcome Bag) (found : Bool) → ma
 any-holds c x (Good bag) found e = record {
   given = value_of (some_of (comparisons c x bag));
   good = refl;
-  holds = holds-known (some_of (comparisons c x bag)) ∙ some-is (comparisons c x bag) ∙ any-map (λ row. compare_values c x (cell row)) is_true bag
+  holds = holds-truth (some_of (comparisons c x bag)) ∙ some-is (comparisons c x bag) ∙ any-map (λ row. compare_values c x (cell row)) is_true bag
       ∙ good_same (list_any (λ row. is_true (compare_values c x (cell row))) bag) found e;
 }
 any-holds c x (Bad faults) found e = absurd (cc e)
@@ -159,7 +140,7 @@ with-met None other y env w a first second = ap is_met second
 with-met (Some test) other y env w a first second =
     ap is_met (value-Op y env [] op.And (test ∷ other ∷ [])
     ∙ (λ i. and_then (both (λ v vs. v ∷ vs) (first i) (both (λ v vs. v ∷ vs) (second i) (Good []))) (operate op.And)))
-    ∙ both-hold (truth_of a) (truth_of w) ∙ ap (λ o. is_met o && holds_of w) (sym first)
+    ∙ holds-both (truth_of a) (truth_of w) ∙ ap (λ o. is_met o && holds_of w) (sym first)
 
 -- ---- a sublink over a spine
 
@@ -234,7 +215,7 @@ module _ (kinds below : List Kind) (outer : List (List Kind)) (sub : Sublink) (s
             let z = cell (row_by spine.items env (u ++ v)) in
             let w = is_true (truth_of (value_of (compare_values c x.0 z))) in
             let still = good-is (of_spine v) (good-value (test_of spine.test) (parts spine.test with_test).0 (u ++ v) env []) in
-            ap (λ b. is_met (of_spine v) && b) (sym (holds-boolean w ∙ holds-known (compare_values c x.0 z)))
+            ap (λ b. is_met (of_spine v) && b) (sym (holds-boolean w ∙ holds-truth (compare_values c x.0 z)))
             ∙ sym (with-met spine.test other (u ++ v) env (Boolean w) still.0 still.1 (compared-is c tested item.expr (u ++ v) env x.0 z (on_pair v) (made v)))
             ∙ ap (λ e. is_met (value e (u ++ v) env [])) (sym any.test)
 

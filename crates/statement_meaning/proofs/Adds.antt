@@ -27,6 +27,7 @@ use Rattle.sql_tree.specs.declared.statement.Statement.{Statement}
 use Rattle.sql_tree.specs.declared.statement.StatementBody.{StatementBody}
 use Rattle.sql_tree.specs.declared.statement.StatementBody.TheVariants as st
 use Rattle.sql_tree.specs.declared.statement.ValuesRow.{ValuesRow}
+use Rattle.bag_algebra.proofs.Truths.{left-false, right-false}
 use Rattle.name_meaning.specs.Froms.{named_so, names_of}
 use Rattle.name_meaning.specs.Meanings.{Meant, QueryMeant, means_at, broken, broken_if, is_whole, is_same_kind, seen_kind, settled, unites}
 use Rattle.name_meaning.specs.Statements.{alone, bare, breaks, columns_of, defined_columns, kinds_of_table, made_alone, name_breaks, named_query_breaks, on_table, query_meant, repeated_columns, repeats, resolved, resolved_body, row_breaks, row_made, rows_made, taken, value_breaks, values_breaks, view_entry}
@@ -38,7 +39,7 @@ use Rattle.name_meaning.specs.laws.Formed.{IsAnswer, IsFormedExpr}
 use Rattle.name_meaning.specs.laws.Standing.{StandAt, AggregatesStand}
 use Rattle.name_meaning.proofs.TreeLaws.{expr-formed, query-answer}
 use Rattle.name_meaning.proofs.Named.{view-reads}
-use Rattle.statement_meaning.proofs.Ready.{names-whole, sound-answer, unbroken, left-false, right-false}
+use Rattle.statement_meaning.proofs.Ready.{names-whole, sound-answer, unbroken}
 use Rattle.statement_meaning.proofs.Stored.{answer-adds}
 use Rattle.statement_meaning.specs.laws.Sounder.{AddsSoundly, HaveKinds, RowsHaveKinds}
 use Rattle.name_meaning.specs.declared.rule.Rule.TheVariants as rule

@@ -1,5 +1,5 @@
 -- A statement that breaks no rule names what is there, and its query can run.
-use Rattle.std.proofs.Common.{◌≡◌, ◌∙◌, ℕ, suc, Bool, true, false, cond, not, ◌||◌, List, [], ◌∷◌, ◌++◌, length, Option, Some, None, IsSome, refl, sym, ap, subst}
+use Rattle.std.proofs.Common.{◌≡◌, ◌∙◌, ℕ, suc, Bool, true, false, cond, not, List, [], ◌∷◌, ◌++◌, length, Option, Some, None, IsSome, refl, sym, ap, subst}
 use Rattle.std.proofs.lemmas.Bool.{not-false}
 use Rattle.std.proofs.lemmas.List.Elements.{All-contains}
 use Rattle.std.specs.Option.{option_map_or}
@@ -46,14 +46,6 @@ names-whole c statement = chosen (name_breaks c statement.body) (limit_breaks c 
 pub unbroken : (is_broken : Bool) (which : Rule) (at : ℕ) → broken_if is_broken which at ≡ [] → is_broken ≡ false
 unbroken true which at e = absurd (cc e)
 unbroken false which at e = refl
-
-pub left-false : (a b : Bool) → (a || b) ≡ false → a ≡ false
-left-false true b h = absurd (cc h)
-left-false false b h = refl
-
-pub right-false : (a b : Bool) → (a || b) ≡ false → b ≡ false
-right-false true b h = absurd (cc h)
-right-false false b h = h
 
 there : {X : Type 0} (o : Option X) → is_none o ≡ false → IsSome o
 there None e = absurd (cc e)

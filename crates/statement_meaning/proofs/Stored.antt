@@ -21,6 +21,7 @@ use Rattle.sql_tree.specs.declared.name.Name.{Name}
 use Rattle.sql_tree.specs.declared.query.OrderTree.{OrderTree}
 use Rattle.sql_tree.specs.declared.query.QueryTree.{QueryTree}
 use Rattle.sql_tree.specs.declared.statement.StatementBody.TheVariants as st
+use Rattle.bag_algebra.proofs.Truths.{left-false, right-false}
 use Rattle.name_meaning.specs.Cores.{BodyPart}
 use Rattle.name_meaning.specs.Froms.{named_so, names_of, settled_columns}
 use Rattle.name_meaning.specs.Meanings.{Around, OutColumn, QueryMeant, broken_if}
@@ -35,7 +36,7 @@ use Rattle.name_meaning.proofs.TreeLaws.{query-answer, query-closed, query-wide}
 use Rattle.name_meaning.proofs.Trees.{query-known}
 use Rattle.name_meaning.specs.laws.Formed.{IsAnswer}
 use Rattle.name_meaning.specs.laws.Known.{HasItsKinds, column_kinds_of}
-use Rattle.statement_meaning.proofs.Ready.{left-false, right-false, named-whole, query-whole, tables-held, unbroken}
+use Rattle.statement_meaning.proofs.Ready.{named-whole, query-whole, tables-held, unbroken}
 use Rattle.statement_meaning.proofs.Words.{opened}
 use Rattle.statement_meaning.specs.laws.Sounder.{AddsAnswer, AsksAt}
 

@@ -5,7 +5,7 @@ use Rattle.std.proofs.lemmas.Bool.{not-true, not-false}
 use Rattle.std.proofs.lemmas.Bool.Decides.{nat_tests}
 use Rattle.std.specs.List.{flat_map, list_any}
 use Rattle.std.specs.Option.{option_map, option_map_or}
-use Rattle.bag_algebra.proofs.Truths.{or_associates, or_false}
+use Rattle.bag_algebra.proofs.Truths.{or_associates, or_false, or_true}
 use Rattle.bag_algebra.specs.TablesRead.{TableRead, tables_read}
 use Rattle.bag_algebra.specs.declared.query.Query.{Query}
 use Rattle.perm_catalog.specs.Contents.{Contents}
@@ -56,10 +56,6 @@ has_id-append : (id : ℕ) (xs ys : List Kept) → has_id id (xs ++ ys) ≡ (has
 has_id-append id [] ys = refl
 has_id-append id (x ∷ xs) ys = ap (λ b. nat_eq x.id id || b) (has_id-append id xs ys) ∙ sym (or_associates (nat_eq x.id id) (has_id id xs) (has_id id ys))
 
-or-true : (a : Bool) → (a || true) ≡ true
-or-true true = refl
-or-true false = refl
-
 module _ (c : Contents) where
   read-now-by : (read : TableRead) (o : Option (List ℕ × TableEntry)) → entry_of_id c read.id ≡ o →
       option_map_or {U = List Kept} (λ (e : List ℕ × TableEntry). record { table = e.0; id = e.1.id; version = e.1.version } ∷ []) o []
@@ -97,7 +93,7 @@ module _ (c : Contents) where
     gone-by r (Some e) is same =
         inl (ap not (has_id-append r.id kept (record { table = e.0; id = read.id; version = e.1.version } ∷ [])
         ∙ ap (λ b. has_id r.id kept || (b || false)) (turned read.id r.id ∙ not-false (nat_eq r.id read.id) same)
-        ∙ or-true (has_id r.id kept)))
+        ∙ or_true (has_id r.id kept)))
 
     gone-new : (r : TableRead) → other r ≡ false → (unkept (kept ++ listed (kept_now c read.id)) r ≡ false) ⊎ (kept_read c r ≡ [])
     gone-new r same = as_read (gone-by r (entry_of_id c read.id) refl same) where

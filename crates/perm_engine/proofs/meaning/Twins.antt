@@ -13,13 +13,14 @@ use Rattle.sql_tree.specs.declared.query.SetTree.{SetTree}
 use Rattle.sql_tree.specs.declared.statement.Statement.{Statement}
 use Rattle.sql_tree.specs.declared.statement.StatementBody.{StatementBody}
 use Rattle.sql_tree.specs.declared.statement.StatementBody.TheVariants as st
+use Rattle.bag_algebra.proofs.Truths.{left-false, right-false}
 use Rattle.name_meaning.proofs.Every.{front-none, back-none}
 use Rattle.name_meaning.specs.Meanings.{OutColumn, QueryMeant, broken, broken_if, is_whole}
 use Rattle.name_meaning.specs.Queries.{columns_with_provenance, count_columns, plain_query, provenance_columns, query_with_provenance}
 use Rattle.name_meaning.specs.Statements.{breaks, greatest_height, limit_breaks, most_operators, most_query_columns, name_breaks, query_limits, size_limit, width_limit}
 use Rattle.name_meaning.specs.declared.answer.Break.{Break}
 use Rattle.name_meaning.specs.declared.rule.Rule.TheVariants as rule
-use Rattle.statement_meaning.proofs.Ready.{left-false, names-whole, right-false, unbroken}
+use Rattle.statement_meaning.proofs.Ready.{names-whole, unbroken}
 use Rattle.statement_meaning.proofs.Words.{plain_seen, proved-seen, body_meant, whole_query, word-proves}
 use Rattle.statement_meaning.specs.laws.Asks.{AsksFor, HasWord, IsResolved, WithoutWord, with_body}
 use Rattle.perm_engine.specs.meaning.headline.Words.{asking}
