@@ -4,6 +4,7 @@ use Rattle.std.specs.Option.{option_map_or}
 use Rattle.std.proofs.Common.{refl, ap, sym, ◌∙◌}
 use Rattle.perm_values.specs.declared.kind.Kind.{Kind}
 use Rattle.perm_values.specs.declared.kind.Kind.TheVariants as kind
+use Rattle.perm_values.proofs.Lists.{front-none, back-none}
 use Rattle.perm_catalog.specs.Contents.{Contents}
 use Rattle.perm_catalog.specs.Sound.{IsSound}
 use Rattle.sql_tree.specs.Regular.{RegularQuery, RegularStatement, RegularStatementBody}
@@ -19,7 +20,6 @@ use Rattle.name_meaning.specs.Scopes.{KnownColumn}
 use Rattle.name_meaning.specs.Statements as words
 use Rattle.name_meaning.specs.Trees.{query_of}
 use Rattle.name_meaning.specs.declared.answer.Break.{Break}
-use Rattle.name_meaning.proofs.Every.{back-none, front-none}
 use Rattle.name_meaning.proofs.Impacts.{impact-query_whole, impact-stands, tables-held}
 use Rattle.name_meaning.proofs.Trees.{query-known}
 use Rattle.name_meaning.specs.laws.Formed.{IsAnswer}

@@ -2,6 +2,7 @@
 use Rattle.std.specs.Prelude.{◌≡◌, ℕ, ℤ, Bool, true, false, cond, List, [], ◌∷◌, ◌++◌, map, flat_map, Option, Some, None, option_map, suc, length, ◌+◌, ◌<◌}
 use Rattle.std.proofs.Common.{refl, ap, sym, subst, ◌∙◌, true≢false, arith, take, get_or}
 use Rattle.std.specs.Option.{option_map_or}
+use Rattle.perm_values.proofs.Lists.{front-none, back-none}
 use Rattle.bag_algebra.specs.declared.query.Query.{Query}
 use Rattle.perm_catalog.specs.Contents.{Contents}
 use Rattle.sql_tree.specs.declared.name.ColRef.{ColRef}
@@ -33,7 +34,7 @@ use Rattle.name_meaning.specs.Scopes.{KnownColumn, Placed, ScopeItem, item_colum
 use Rattle.name_meaning.specs.Trees.{core_of, from_item_of, from_of, item_of, join_of, part_of, query_of, set_of_tree, set_step_of, source_of}
 use Rattle.name_meaning.specs.declared.answer.Break.{Break}
 use Rattle.name_meaning.specs.declared.scope.Scope.{Scope}
-use Rattle.name_meaning.proofs.Every.{front-none, back-none, whole-none, none-whole}
+use Rattle.name_meaning.proofs.Every.{whole-none, none-whole}
 use Rattle.name_meaning.proofs.Opened.{core-is, opened_from_item}
 use Rattle.name_inside.specs.Held.{Adds, Held, all_breaks, all_inside, clauses_of, condition_of, having_of, held_at, held_clauses, held_from, held_item, held_items, held_operand, held_optional, held_query, held_read, held_select, inside_in, items_of, query_alone, sources_of, AddsItem, AddsJoin, FromAdded, IsOwn}
 use Rattle.name_inside.specs.Passed.{HasScope, HasWidth, IsReadAs, PutsRead}

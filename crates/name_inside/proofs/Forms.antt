@@ -7,6 +7,7 @@ use Rattle.null_logic.specs.declared.operator.Operator.TheVariants as x
 use Rattle.null_logic.specs.declared.compare.Compare.TheVariants.{Equal, NotEqual}
 use Rattle.perm_values.specs.declared.kind.Kind.{Kind}
 use Rattle.perm_values.specs.declared.kind.Kind.TheVariants as kind
+use Rattle.perm_values.proofs.Lists.{front-none, back-none}
 use Rattle.bag_algebra.specs.declared.expr.Expr.{Expr}
 use Rattle.bag_algebra.specs.declared.expr.Expr.TheVariants.{Op, IsNull, IsTruth, Same}
 use Rattle.bag_algebra.specs.declared.query.SubKind.{SubKind}
@@ -28,7 +29,7 @@ use Rattle.name_meaning.specs.declared.need.Need.{Need}
 use Rattle.name_meaning.specs.declared.need.Need.TheVariants.{OfKind as of_kind, Alike as alike, Free as free}
 use Rattle.name_meaning.specs.declared.scope.Found.{Found}
 use Rattle.name_meaning.specs.declared.scope.Found.TheVariants.{Absent as absent, Ambiguous as ambiguous, Column as found}
-use Rattle.name_meaning.proofs.Every.{Every, every-append, every-map, every-flat_map, front-none, back-none}
+use Rattle.name_meaning.proofs.Every.{Every, every-append, every-map, every-flat_map}
 use Rattle.name_meaning.proofs.Induction.{AreKept, BodyParts, kept-part}
 use Rattle.name_inside.specs.Held.{Held, all_breaks, all_inside, held, held_arm, held_at, held_optional, held_query, held_step}
 use Rattle.name_inside.proofs.Over.{IsOver, breaks-append, breaks-one, both-nothing, inside-append, inside-one}

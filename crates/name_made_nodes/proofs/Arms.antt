@@ -12,6 +12,7 @@ use Rattle.bag_algebra.specs.declared.expr.Expr.{Expr}
 use Rattle.bag_algebra.specs.declared.expr.Expr.TheVariants.{Chain, Case}
 use Rattle.perm_values.specs.declared.kind.Kind.{Kind}
 use Rattle.perm_values.specs.declared.kind.Kind.TheVariants as kind
+use Rattle.perm_values.proofs.Lists.{back-none}
 use Rattle.perm_catalog.specs.Contents.{Contents}
 use Rattle.sql_tree.specs.declared.expression.ExprStep.{ExprStep}
 use Rattle.name_meaning.specs.Trees.{step_of}
@@ -26,7 +27,7 @@ use Rattle.name_meaning.specs.declared.need.Need.{Need}
 use Rattle.name_meaning.specs.declared.need.Need.TheVariants.{OfKind, Alike}
 use Rattle.name_made_nodes.specs.Makes.{before_of, with_found, arm_exprs, Makes, MakesMore, MakesSteps, MakesArms}
 use Rattle.name_made_nodes.specs.declared.within.Within.{Within}
-use Rattle.name_made_nodes.proofs.Parts.{none-second, with-nothing, none-more, one-more, more-more, node-made}
+use Rattle.name_made_nodes.proofs.Parts.{with-nothing, none-more, one-more, more-more, node-made}
 
 -- ---- results
 
@@ -52,7 +53,7 @@ pub broken-made : (m : Meant) (wanted : Kind) (e : Expr) (w : Within) (earlier :
     → m.breaks ≡ earlier ++ last ∷ [] → (may_link : Bool) → Makes may_link m wanted e w w
 broken-made m wanted e w earlier last some may_link =
     record {
-      makes = λ whole. let none : last ∷ [] ≡ [] = none-second earlier (last ∷ []) (sym some ∙ whole) in absurd (cc);
+      makes = λ whole. let none : last ∷ [] ≡ [] = back-none earlier (last ∷ []) (sym some ∙ whole) in absurd (cc);
       unlinked = λ _. refl;
     }
 

@@ -8,6 +8,7 @@ use Rattle.bag_algebra.specs.declared.expr.Item.{Item}
 use Rattle.bag_algebra.specs.declared.query.Aggr.{Aggr}
 use Rattle.bag_algebra.specs.declared.query.Sublink.{Sublink}
 use Rattle.perm_values.specs.declared.kind.Kind.{Kind}
+use Rattle.perm_values.proofs.Lists.{front-none, back-none}
 use Rattle.sql_tree.specs.declared.name.Name.{Name}
 use Rattle.name_meaning.specs.Items.{SelectMeant, Made, column_item, columns_meant, first_wanted, items_breaks, made_before, made_items, no_columns, star_meant, table_star_meant, titled, value_made, value_meant, width_of_item}
 use Rattle.name_meaning.specs.Meanings.{Before, Meant, broken, is_whole, seen_kind, settled}
@@ -18,7 +19,7 @@ use Rattle.name_meaning.specs.declared.scope.Scope.{Scope}
 use Rattle.name_made_nodes.specs.Listed.{widths, AreListed, MakesItems}
 use Rattle.name_made_nodes.specs.Makes.{before_of, with_found, Makes}
 use Rattle.name_made_nodes.specs.declared.within.Within.{Within}
-use Rattle.name_made_nodes.proofs.Parts.{none-first, none-second, with-nothing, with-both, before-with, behind-nothing, behind-both}
+use Rattle.name_made_nodes.proofs.Parts.{with-nothing, with-both, before-with, behind-nothing, behind-both}
 use Rattle.name_meaning.specs.declared.rule.Rule.TheVariants as rule
 
 breaks-append : (ms more : List SelectMeant) → items_breaks (ms ++ more) ≡ items_breaks ms ++ items_breaks more
@@ -72,8 +73,8 @@ more-listed may_link ms more wanted p q r a b c first second =
     record {
       makes = λ whole.
           let made = made_items ms wanted (before_of a) in
-          let one = first.makes (none-first (items_breaks ms) (items_breaks more) (apart whole)) in
-          let two = second.makes (none-second (items_breaks ms) (items_breaks more) (apart whole)) in
+          let one = first.makes (front-none (items_breaks ms) (items_breaks more) (apart whole)) in
+          let two = second.makes (back-none (items_breaks ms) (items_breaks more) (apart whole)) in
           let at : before_of b ≡ behind (before_of a) made.subs made.aggregates = ap before_of one.found ∙ before-with a made.subs made.aggregates in
           let rest = made_items more later (behind (before_of a) made.subs made.aggregates) in
           let all : made_before made rest ≡ made_items (ms ++ more) wanted (before_of a) = sym (items-append ms more wanted (before_of a)) in
@@ -85,8 +86,8 @@ more-listed may_link ms more wanted p q r a b c first second =
                 ∙ ap (λ (made : Made). with_found a made.subs made.aggregates) all;
           };
       wide = λ whole.
-          let one = first.wide (none-first (items_breaks ms) (items_breaks more) (apart whole)) in
-          let two = second.wide (none-second (items_breaks ms) (items_breaks more) (apart whole)) in
+          let one = first.wide (front-none (items_breaks ms) (items_breaks more) (apart whole)) in
+          let two = second.wide (back-none (items_breaks ms) (items_breaks more) (apart whole)) in
           let both = widths-append ms more in
           omega (arith, one, two, both);
       unlinked = λ none. second.unlinked none ∙ first.unlinked none;
@@ -102,13 +103,13 @@ one-listed may_link m wanted p q old new makes wide unlinked =
     let first = m.make (take (width_of_item m) wanted) (before_of old) in
     record {
       makes = λ whole.
-          let listed = makes (none-first m.breaks [] whole) in
+          let listed = makes (front-none m.breaks [] whole) in
           record {
             items = listed.items ∙ ap (λ (items : List Item). p ++ items) (sym (append-nil first.items));
             found = listed.found ∙ ap (λ (subs : List Sublink). with_found old subs first.aggregates) (sym (append-nil first.subs))
                 ∙ ap (λ (aggregates : List Aggr). with_found old (first.subs ++ []) aggregates) (sym (append-nil first.aggregates));
           };
-      wide = λ whole. let one = wide (none-first m.breaks [] whole) in omega (arith, one);
+      wide = λ whole. let one = wide (front-none m.breaks [] whole) in omega (arith, one);
       unlinked = unlinked;
     }
 

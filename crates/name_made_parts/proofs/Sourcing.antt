@@ -2,6 +2,7 @@
 use Rattle.std.specs.Prelude.{◌≡◌, ℕ, suc, ◌+◌, true, false, List, [], ◌∷◌, ◌++◌, length, map, Option, Some, None, option_map}
 use Rattle.std.specs.Option.{option_map_or}
 use Rattle.std.proofs.Common.{refl, ap, sym, subst, ◌∙◌, arith, append-nil, append_assoc, length-append}
+use Rattle.perm_values.proofs.Lists.{front-none, back-none}
 use Rattle.bag_algebra.specs.declared.query.JoinKind.TheVariants as join
 use Rattle.bag_algebra.specs.declared.query.Query.{Query}
 use Rattle.bag_algebra.specs.declared.query.Query.TheVariants.{Apply, Join}
@@ -25,7 +26,6 @@ use Rattle.name_meaning.specs.declared.scope.Scope.{Scope}
 use Rattle.name_meaning.proofs.Equations.{token, fromitem-record, fromsource-inner, fromsource-named, joinstep-record-none, joinstep-record-some}
 use Rattle.name_meaning.proofs.Opened.{opened_from}
 use Rattle.name_meaning.proofs.Lateral.{join-begins, join-items, join-lateral, join-plain, lateral_item, plain_item, plainly}
-use Rattle.name_made_nodes.proofs.Parts.{none-first, none-second}
 use Rattle.name_made_parts.specs.Sources.{IsScope, JoinsMade, MakesBeside, MakesFrom, MakesJoin, MakesOn, MakesSource, SourcesMade, StandsIn, beside_left, text_of, join_on_kept, kept_or_yes}
 use Rattle.name_seen_parts.proofs.Scoping.{more-behind}
 use Rattle.name_made_parts.proofs.Coring.{own-whole}
@@ -145,8 +145,8 @@ plainly-made outer left step first count scope before right after kept on item i
     let own : known ≡ Some stands.own = stands.known in
     let breaks : optional_breaks step.condition (on_meant outer (Some stands.own) step.condition) ≡ [] =
     subst (λ (items : Option (List ScopeItem)). optional_breaks step.condition (on_meant outer items step.condition) ≡ []) own
-    (none-second (left.breaks ++ m.breaks) (optional_breaks step.condition sees) whole) in
-    let made = item (none-second left.breaks m.breaks (none-first (left.breaks ++ m.breaks) (optional_breaks step.condition sees) whole)) in
+    (back-none (left.breaks ++ m.breaks) (optional_breaks step.condition sees) whole) in
+    let made = item (back-none left.breaks m.breaks (front-none (left.breaks ++ m.breaks) (optional_breaks step.condition sees) whole)) in
     let stands_own : StandsIn (Some stands.own) first scope =
     record { before = stands.before; own = stands.own; after = stands.after; known = refl; scope_is = stands.scope_is; at = stands.at } in
     let keeps : AreKept sees kept =
@@ -180,7 +180,7 @@ applied-made outer left step first before scope whole right after item is counts
     subst (λ (items : Option (List ScopeItem)). MakesSource (step.item.means (beside_items items outer) left.names) right) (sym own.known)
     (item own.own stands_own (counts own.own own.known) left.names) in
     is ∙ ap (λ (q : Query). Apply (join_kind step.word) q right) same
-    ∙ ap (Apply (join_kind step.word) left.query) (made (none-second left.breaks m.breaks none))
+    ∙ ap (Apply (join_kind step.word) left.query) (made (back-none left.breaks m.breaks none))
 
 -- a lateral subquery beside what is made
 pub lateral-made : (outer : List Scope) (step : JoinPart) (first before : ℕ) (scope : Scope) (whole right after : Query)
@@ -227,9 +227,9 @@ source-more outer (first ∷ parts) part scope before next after count joins so_
           let none : left.breaks ++ right.breaks ≡ [] = subst (λ (m : FromMeant). m.breaks ≡ []) is_beside whole in
           let both : StandsIn (both_known left.items right.items) 0 scope = subst (λ (m : FromMeant). StandsIn m.items 0 scope) is_beside stands in
           ap Some (is ∙ ap (λ (left : Option Query). beside_left left next)
-          (so_far.makes (none-first left.breaks right.breaks none) (stands-left left.items right.items 0 scope both))
+          (so_far.makes (front-none left.breaks right.breaks none) (stands-left left.items right.items 0 scope both))
           ∙ ap (λ (q : Query). Join join.Inner left.query q yes [])
-          (makes left.names (none-second left.breaks right.breaks none)
+          (makes left.names (back-none left.breaks right.breaks none)
           (subst (λ (n : ℕ). StandsIn right.items n scope) start (stands-right left.items right.items 0 count scope so_far.counts both)))
           ∙ ap (λ (m : FromMeant). m.query) (sym is_beside));
       counts = λ items known.
@@ -275,7 +275,7 @@ join-fields c tree =
 item-so : (at : ℕ) (mark : ScopeMark) (earlier : List (List ℕ)) (name label : List ℕ) (read : Read) (made : Query)
     → (read.breaks ≡ [] → made ≡ marked mark label (read_names read) read) → MakesSource (item_meant at mark earlier name label read) made
 item-so at mark earlier name label read made makes whole =
-    makes (none-first read.breaks _ (none-first _ _ whole))
+    makes (front-none read.breaks _ (front-none _ _ whole))
 
 pub item-named : (c : Contents) (around : Around) (item : FromItem) (name : Name) (made : Query) → item.source ≡ source.Named name
     → ((read_named c name).breaks ≡ [] → made ≡ marked item.mark name.text (read_names (read_named c name)) (read_named c name))

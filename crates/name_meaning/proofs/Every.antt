@@ -29,14 +29,6 @@ pub every-proved : {X Y : Type 0} (P : Y → Type 0) (f : X → Y) (xs : List ((
 every-proved P f [] = tt
 every-proved P f (e ∷ xs) = (e.1, every-proved P f xs)
 
-pub front-none : {X : Type 0} (xs ys : List X) → xs ++ ys ≡ [] → xs ≡ []
-front-none [] ys e = refl
-front-none (x ∷ xs) ys e = cc e
-
-pub back-none : {X : Type 0} (xs ys : List X) → xs ++ ys ≡ [] → ys ≡ []
-back-none [] ys e = e
-back-none (x ∷ xs) ys e = cc e
-
 -- ---- what breaks nothing
 
 pub whole-none : (breaks : List Break) → is_whole breaks ≡ true → breaks ≡ []

@@ -11,6 +11,7 @@ use Rattle.std.specs.Option.{option_map_or}
 use Rattle.perm_values.specs.Rows.{PlacesWithin}
 use Rattle.perm_values.specs.declared.kind.Kind.{Kind}
 use Rattle.perm_values.specs.declared.kind.Kind.TheVariants.{Boolean}
+use Rattle.perm_values.proofs.Lists.{front-none, back-none}
 use Rattle.bag_algebra.specs.Bags.{Bag}
 use Rattle.bag_algebra.specs.built.Openings.{kinds_of-Join, kinds_of-Apply}
 use Rattle.bag_algebra.specs.built.Forms.{subs_kinds, WellFormed-Base, WellFormed-Join, WellFormed-Apply}
@@ -53,7 +54,7 @@ use Rattle.name_meaning.proofs.Arms.{GoodOptional}
 use Rattle.name_meaning.proofs.Cores.{by, formed-condition}
 use Rattle.name_meaning.proofs.Sublinks.{GoodQuery}
 use Rattle.name_meaning.specs.declared.rule.Rule.TheVariants as rule
-use Rattle.name_meaning.proofs.Every.{front-none, back-none, unbroken-not}
+use Rattle.name_meaning.proofs.Every.{unbroken-not}
 use Rattle.name_meaning.proofs.KindsOf.{kinds-table_columns, kinds-settled_columns, items_kinds-append, kinds-plain, table_with, kinds-table, kinds-marked}
 use Rattle.name_meaning.proofs.Settled.{kinds-named_columns}
 use Rattle.name_meaning.proofs.Standing.{stand-whole}

@@ -5,6 +5,7 @@ use Rattle.std.proofs.lemmas.List.Elements.{All-nil, All-cons, All-append}
 use Rattle.std.specs.List.{list_any, AllByRecursion as Every}
 use Rattle.std.specs.Option.{option_map_or}
 use Rattle.perm_values.specs.declared.kind.Kind.{Kind}
+use Rattle.perm_values.proofs.Lists.{front-none, back-none}
 use Rattle.bag_algebra.specs.WellFormed.{HasKind, ItemsForm}
 use Rattle.bag_algebra.specs.declared.expr.Expr.TheVariants.{Col}
 use Rattle.bag_algebra.specs.declared.expr.Item.{Item}
@@ -22,7 +23,6 @@ use Rattle.name_meaning.proofs.FoundColumns.{IsPlaced, all-placed, item-placed}
 use Rattle.name_meaning.proofs.FormedParts.{formed-none, formed-map, formed-both}
 use Rattle.name_meaning.proofs.GoodMeant.{GoodMeant, IsPlain}
 use Rattle.name_meaning.proofs.Arms.{null-holds}
-use Rattle.name_meaning.proofs.Every.{front-none, back-none}
 use Rattle.name_meaning.proofs.Settled.{settled-twice}
 
 abbrev pub IsFormedList : Surroundings → Before → Made → Type 0

@@ -4,6 +4,7 @@ use Rattle.std.proofs.Common.{refl, ap, sym, ◌∙◌, subst}
 use Rattle.std.specs.Option.{option_map_or}
 use Rattle.perm_values.specs.declared.kind.Kind.{Kind}
 use Rattle.perm_values.specs.declared.kind.Kind.TheVariants as kind
+use Rattle.perm_values.proofs.Lists.{back-none}
 use Rattle.bag_algebra.specs.built.Openings.{kinds_of-Project, kinds_of-Distinct}
 use Rattle.bag_algebra.specs.Kinds.{kinds_of, item_kinds}
 use Rattle.bag_algebra.specs.declared.query.Aggr.{Aggr}
@@ -19,7 +20,7 @@ use Rattle.name_meaning.specs.Sublinks.{nothing_before}
 use Rattle.name_meaning.specs.declared.answer.Break.{Break}
 use Rattle.name_meaning.specs.declared.scope.Scope.{Scope}
 use Rattle.name_meaning.specs.laws.Facts.{Facts, facts_of, both_facts, sub_facts}
-use Rattle.name_meaning.proofs.Every.{Every, every-append, every-map, back-none}
+use Rattle.name_meaning.proofs.Every.{Every, every-append, every-map}
 use Rattle.name_meaning.proofs.FactsOf.{facts-Filter, facts-Project, facts-aggregated, facts-distinct_if}
 use Rattle.name_meaning.proofs.Kept.{GoodQuery}
 use Rattle.name_meaning.proofs.KeptItems.{ListIsKnown, GoodSelect, GoodItem, known-list, steady-list, named-list}

@@ -10,6 +10,7 @@ use Rattle.bag_algebra.specs.Kinds.{kinds_of, shape}
 use Rattle.bag_algebra.specs.WellFormed.{label_width}
 use Rattle.bag_algebra.specs.declared.query.JoinKind.TheVariants as join
 use Rattle.perm_values.specs.declared.kind.Kind.TheVariants as kind
+use Rattle.perm_values.proofs.Lists.{front-none, back-none}
 use Rattle.bag_algebra.specs.declared.query.Label.{Label}
 use Rattle.bag_algebra.specs.declared.query.Label.TheVariants.{Relation, External}
 use Rattle.bag_algebra.specs.declared.query.Query.{Query}
@@ -34,7 +35,7 @@ use Rattle.name_meaning.specs.declared.answer.Break.{Break}
 use Rattle.name_meaning.specs.declared.scope.Scope.{Scope}
 use Rattle.name_meaning.specs.laws.Facts.{Facts, sub_facts}
 use Rattle.name_meaning.specs.laws.Known.{ReadIsKnown, ItemIsKnown, FromIsKnown, column_kinds_of}
-use Rattle.name_meaning.proofs.Every.{Every, every-append, front-none, back-none}
+use Rattle.name_meaning.proofs.Every.{Every, every-append}
 use Rattle.name_meaning.proofs.FactsOf.{facts-Join_alone, facts-Join, facts-Apply}
 use Rattle.name_meaning.proofs.Kept.{GoodQuery}
 use Rattle.name_meaning.proofs.NamedPlaces.{IsNamed, AreNamed, named-base, named-formed}

@@ -8,6 +8,7 @@ use Rattle.perm_values.specs.Rows.{KeysWithin, PlacesWithin}
 use Rattle.perm_values.specs.declared.key.Key.{Key}
 use Rattle.perm_values.specs.declared.kind.Kind.{Kind}
 use Rattle.perm_values.specs.declared.kind.Kind.TheVariants.{Text}
+use Rattle.perm_values.proofs.Lists.{front-none, back-none}
 use Rattle.bag_algebra.specs.built.Openings.{kinds_of-Prov}
 use Rattle.bag_algebra.specs.built.Forms.{WellFormed-Union, WellFormed-Intersect, WellFormed-Except, WellFormed-Limit, WellFormed-Prov}
 use Rattle.bag_algebra.specs.Kinds.{kinds_of, width_of, shape, place_kinds}
@@ -29,7 +30,7 @@ use Rattle.name_meaning.specs.laws.Standing.{RowsHold}
 use Rattle.name_meaning.proofs.Cores.{by}
 use Rattle.name_meaning.proofs.Froms.{range-in, position-in}
 use Rattle.name_meaning.specs.declared.rule.Rule.TheVariants as rule
-use Rattle.name_meaning.proofs.Every.{front-none, back-none, unbroken, unbroken-not}
+use Rattle.name_meaning.proofs.Every.{unbroken, unbroken-not}
 use Rattle.name_meaning.proofs.KindsOf.{kinds-set, kinds-limited}
 use Rattle.name_meaning.proofs.Settled.{both-same, settle-united, settled-second}
 use Rattle.bag_algebra.proofs.Truths.{left-true, right-true}

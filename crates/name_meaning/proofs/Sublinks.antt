@@ -5,6 +5,7 @@ use Rattle.null_logic.specs.declared.compare.Compare.{Compare}
 use Rattle.perm_values.specs.Rows.{PlacesWithin}
 use Rattle.perm_values.specs.declared.kind.Kind.{Kind}
 use Rattle.perm_values.specs.declared.kind.Kind.TheVariants.{Text, Boolean}
+use Rattle.perm_values.proofs.Lists.{front-none, back-none}
 use Rattle.bag_algebra.specs.built.Forms.{subs_kinds}
 use Rattle.bag_algebra.specs.Kinds.{kinds_of, kind_in, width_of}
 use Rattle.bag_algebra.specs.WellFormed.{HasKind, WellFormed, AggregatesForm, sub_form, sub_kind}
@@ -23,7 +24,7 @@ use Rattle.name_meaning.specs.laws.Standing.{StandAt, RowsHold, AggregatesStand}
 use Rattle.name_meaning.proofs.FormedParts.{none-formed}
 use Rattle.name_meaning.proofs.GoodMeant.{GoodMeant, GoodPart, IsPlain}
 use Rattle.name_meaning.specs.declared.rule.Rule.TheVariants as rule
-use Rattle.name_meaning.proofs.Every.{front-none, back-none, whole-kind, unbroken}
+use Rattle.name_meaning.proofs.Every.{whole-kind, unbroken}
 use Rattle.name_meaning.proofs.Settled.{settled-twice, settled-united, settled-second}
 
 -- a query that breaks nothing has its kinds and is made well formed, and its provenance columns are columns of it

@@ -204,7 +204,3 @@ never-ok P (Err e) Q is = tt
 pub never-if_ok : {X E : Type 0} (P : X → Type 0) (result : Result X E) (Q : E → Type 0) → IsErrAnd result Q → IfOk result P
 never-if_ok P (Ok x) Q is = absurd is
 never-if_ok P (Err e) Q is = tt
-
-pub whatever-ok : {X E P : Type 0} (result : Result X E) → P → OnOk result P
-whatever-ok (Ok x) holds = holds
-whatever-ok (Err e) holds = tt

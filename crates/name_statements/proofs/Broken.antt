@@ -12,7 +12,6 @@ use Rattle.perm_values.specs.declared.kind.Kind.TheVariants.{Integer, Text, Bool
 use Rattle.perm_catalog.specs.Columns.{column_kinds}
 use Rattle.perm_catalog.specs.Contents.{Contents}
 use Rattle.perm_catalog.specs.declared.column.Column.{Column}
-use Rattle.contribution.proofs.Added.{one_more}
 use Rattle.sql_tree.specs.declared.expression.ExprTree.{ExprTree}
 use Rattle.sql_tree.specs.declared.statement.ColumnDef.{ColumnDef}
 use Rattle.name_meaning.specs.Froms.{condition_breaks, named_so, names_of, settled_columns}
@@ -28,6 +27,7 @@ use Rattle.name_seen_parts.specs.declared.refusal.Refusal.{Refusal}
 use Rattle.name_seen_parts.specs.declared.refusal.Refusal.TheVariants.{Break as Broken, NoMemory}
 use Rattle.name_seen_parts.specs.Told.{Tells}
 use Rattle.std.proofs.Math.ListN.{drop_of_length-le}
+use Rattle.perm_values.proofs.Lists.{taken}
 use Rattle.bag_algebra.proofs.Truths.{left-false, right-false}
 use Rattle.name_seen_parts.specs.Columns.{columns_of}
 use Rattle.name_seen_parts.specs.declared.clauses.column.ShownColumn.{ShownColumn}
@@ -134,7 +134,7 @@ pub shown-behind : (columns : List ShownColumn) (at : ℕ) (column : ShownColumn
     → column ≡ get_or columns at column → keys ≡ shown_names (take at columns) → keys ++ column.name ∷ [] ≡ shown_names (take (at + 1) columns)
 shown-behind columns at column keys within e are =
     ap (λ (names : List (List ℕ)). names ++ column.name ∷ []) are ∙ sym (shown-append (take at columns) (column ∷ []))
-    ∙ ap shown_names (sym (one_more columns at column within e))
+    ∙ ap shown_names (sym (taken columns at column within e))
 
 named-back : (a b : List ℕ) → named_so a b ≡ true → named_so b a ≡ true
 named-back a b e = (bytes_decides b a).1 (sym ((bytes_decides a b).0 e))

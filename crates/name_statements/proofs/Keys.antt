@@ -5,8 +5,8 @@ use Rattle.std.proofs.lemmas.Bool.Decides.{nat_tests}
 use Rattle.std.proofs.lemmas.List.Recursion.{is_count_by}
 use Rattle.std.specs.List.{count_by, position_or_len, prefix_len}
 use Rattle.std.specs.Option.{option_map_or}
+use Rattle.perm_values.proofs.Lists.{front-none, back-none}
 use Rattle.bag_algebra.specs.declared.query.Query.{Query}
-use Rattle.name_meaning.proofs.Every.{back-none, front-none}
 use Rattle.name_meaning.proofs.Equations.{token, querytree-record}
 use Rattle.name_meaning.specs.Cores.{BodyPart}
 use Rattle.name_meaning.specs.Meanings.{Around, OutColumn, QueryMeant, QueryPart, broken_if, is_whole, query_means_at}

@@ -46,7 +46,7 @@ compare_values-mirrored op a b =
     swapped (is_null a) (is_null b) (holds op (value_cmp a b)) (holds (mirrored op) (value_cmp b a))
     (holds-mirrored op (value_cmp a b) ∙ ap (holds (mirrored op)) (sym (value_cmp_total.antisymm b a)))
 
-holds-equal : (o : Ordering) → holds Equal o ≡ is_eq o
+pub holds-equal : (o : Ordering) → holds Equal o ≡ is_eq o
 holds-equal order.Less = refl
 holds-equal order.Equal = refl
 holds-equal order.Greater = refl
@@ -55,7 +55,7 @@ is_true-known : (h : Bool) → is_true (known h) ≡ h
 is_true-known true = refl
 is_true-known false = refl
 
-beside_no_null : (m n h s : Bool) → h ≡ s → is_true (cond (m || n) Unknown (known h)) ≡ (not m && not n && s)
+pub beside_no_null : (m n h s : Bool) → h ≡ s → is_true (cond (m || n) Unknown (known h)) ≡ (not m && not n && s)
 beside_no_null true true h s e = refl
 beside_no_null true false h s e = refl
 beside_no_null false true h s e = refl

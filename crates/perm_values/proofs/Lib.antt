@@ -1,3 +1,5 @@
 pub mod Keeping
+pub mod Lists
 pub mod Ranges
+pub mod Results
 pub mod Taken

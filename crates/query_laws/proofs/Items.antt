@@ -6,8 +6,6 @@ use Rattle.bag_algebra.proofs.Members.{IsIn}
 use Rattle.bag_algebra.specs.Outcome.{Outcome, Good, each}
 use Rattle.bag_algebra.proofs.Outcomes.{same_good, both-is}
 
--- ---- what a list contains
-
 -- ---- good evaluations of lists
 
 -- what each item gives is in the answer, and nothing else

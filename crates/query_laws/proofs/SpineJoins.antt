@@ -2,6 +2,7 @@
 use Rattle.std.proofs.Common.{◌≡◌, ℕ, zero, suc, ◌+◌, ◌≤◌, inl, inr, Bool, true, false, cond, not, ◌&&◌, ◌||◌, List, [], ◌∷◌, ◌++◌, map, filter, length, append-nil, refl, sym, ap, ◌∙◌, subst, arith, true≢false}
 use Rattle.std.proofs.lemmas.Bool.{leb-true}
 use Rattle.std.proofs.lemmas.Bool.Decides.{nat_tests}
+use Rattle.std.proofs.lemmas.List.{map-append}
 use Rattle.std.specs.Prelude.{nat_eq, nat_le}
 use Rattle.std.specs.List.{flat_map, list_any}
 use Rattle.perm_values.specs.declared.kind.Kind.{Kind}
@@ -51,10 +52,6 @@ use Rattle.query_laws.specs.declared.spines.spine.Spine.{Spine}
 map-flat : {X Y : Type 0} (f : X → Y) (xs : List X) → map f xs ≡ flat_map (λ x. f x ∷ []) xs
 map-flat f [] = refl
 map-flat f (x ∷ xs) = ap (λ ys. f x ∷ ys) (map-flat f xs)
-
-map-append : {X Y : Type 0} (f : X → Y) (xs ys : List X) → map f (xs ++ ys) ≡ map f xs ++ map f ys
-map-append f [] ys = refl
-map-append f (x ∷ xs) ys = ap (λ zs. f x ∷ zs) (map-append f xs ys)
 
 -- what is made of each gathered row may be made of each item's own
 map-gather : {X Y Z : Type 0} (f : Y → Z) (g : X → Outcome (List Y)) (xs : List X) → mapped (map f) (gather g xs) ≡ gather (λ x. mapped (map f) (g x)) xs

@@ -3,6 +3,7 @@ use Rattle.std.proofs.Common.{◌≡◌, ◌≢◌, ℕ, zero, suc, ◌<◌, ◌
 use Rattle.std.proofs.lemmas.Bool.Decides.{nat_tests}
 use Rattle.std.proofs.lemmas.List.{map-append}
 use Rattle.std.proofs.lemmas.Option.{slice_get_within, same_Some}
+use Rattle.std.proofs.lemmas.Bool.{eq-eqb}
 use Rattle.std.specs.List.{list_any, slice_get}
 use Rattle.indexmap.specs.IndexSet.{insert_key}
 use Rattle.perm_values.specs.Rows.{same_row, picked}
@@ -119,9 +120,6 @@ one_place (k ∷ keys) (suc n) (suc m) key h e f = ap suc (one_place keys n m ke
 
 -- ---- the rows with a key's number are those of its class
 
-same_number : (a b : ℕ) → a ≡ b → nat_eq a b ≡ true
-same_number a b e = grind (arith, nat_tests)
-
 other_number : (a b : ℕ) → a ≢ b → nat_eq a b ≡ false
 other_number a b e = grind (arith, nat_tests)
 
@@ -138,7 +136,7 @@ numbered-is groups us keys numbers number key c at = rows numbers us c.found
         true≢false (sym (ap (λ x. same_row x key) (same_Some _ _ k) ∙ same_row-refl key) ∙ f)
 
     test : (n : ℕ) (v : Row) (b : Bool) → slice_get keys n ≡ Some (picked groups v) → same_row (picked groups v) key ≡ b → nat_eq n number ≡ b
-    test n v true e f = same_number n number (one_place keys n number key single (e ∙ ap Some (same_row-is (picked groups v) key f)) at)
+    test n v true e f = eq-eqb n number (one_place keys n number key single (e ∙ ap Some (same_row-is (picked groups v) key f)) at)
     test n v false e f = other_number n number (other n v e f)
 
     rows : (ns : List ℕ) (vs : Bag) → map (slice_get keys) ns ≡ map (λ u. Some (picked groups u)) vs → numbered number ns vs ≡ class_of groups key vs

@@ -1,17 +1,17 @@
 -- What a statement adds that breaks no rule: columns of a table, and values of the kinds of their columns.
 use Rattle.std.proofs.Common.{◌≡◌, ◌≢◌, ◌∙◌, ℕ, suc, Bool, true, false, cond, not, nat_eq, List, [], ◌∷◌, length, Option, Some, None, IfSome, refl, sym, ap, subst, arith}
-use Rattle.std.proofs.lemmas.Bool.{not-false}
+use Rattle.std.proofs.lemmas.Bool.{not-false, eqb-true}
 use Rattle.std.proofs.lemmas.List.Elements.{All-head, All-tail, All-map, All-weaker, All-contains_itself}
 use Rattle.std.specs.Cmp.Lexicographic.{pointwise, nat_list_eq_equiv}
 use Rattle.std.specs.List.{All, AllByRecursion, Contains, IsDistinct, flat_map, list_any}
 use Rattle.std.specs.Option.{option_map_or}
 use Rattle.perm_values.specs.declared.kind.Kind.{Kind}
 use Rattle.perm_values.specs.declared.kind.Kind.TheVariants as kind
+use Rattle.perm_values.proofs.Lists.{front-none, back-none}
 use Rattle.bag_algebra.specs.built.Forms.{subs_kinds}
 use Rattle.bag_algebra.specs.WellFormed.{HasKind}
 use Rattle.bag_algebra.specs.declared.query.Aggr.{Aggr}
 use Rattle.bag_algebra.specs.declared.query.Sublink.{Sublink}
-use Rattle.stored_provenance.proofs.Marks.{nat_same}
 use Rattle.perm_catalog.specs.Changes.{table_named}
 use Rattle.perm_catalog.specs.Columns.{AreTableColumns, column_kinds, column_names}
 use Rattle.perm_catalog.specs.Contents.{Contents}
@@ -34,7 +34,6 @@ use Rattle.name_meaning.specs.Statements.{alone, bare, breaks, columns_of, defin
 use Rattle.name_meaning.specs.Sublinks.{nothing_before}
 use Rattle.name_meaning.specs.Trees.{part_of}
 use Rattle.name_meaning.specs.declared.answer.Break.{Break}
-use Rattle.name_meaning.proofs.Every.{front-none, back-none}
 use Rattle.name_meaning.specs.laws.Formed.{IsAnswer, IsFormedExpr}
 use Rattle.name_meaning.specs.laws.Standing.{StandAt, AggregatesStand}
 use Rattle.name_meaning.proofs.TreeLaws.{expr-formed, query-answer}
@@ -139,7 +138,7 @@ module _ (c : Contents) (sound : IsSound c) where
   row-has kinds row regular = chosen (nat_eq (length row.values) (length kinds)) refl where
     chosen : (b : Bool) → nat_eq (length row.values) (length kinds) ≡ b → cond b (values_breaks c kinds row.values) (broken rule.UnfitWidth row.at ∷ []) ≡ []
         → HaveKinds (row_made c kinds row.values) kinds
-    chosen true same e = values-have kinds row.values (nat_same (length row.values) (length kinds) same) (all-of RegularExpr row.values regular.1) e
+    chosen true same e = values-have kinds row.values (eqb-true (length row.values) (length kinds) same) (all-of RegularExpr row.values regular.1) e
     chosen false same e = absurd (cc e)
 
   rows-have : (kinds : List Kind) (rows : List ValuesRow) → All RegularRow rows

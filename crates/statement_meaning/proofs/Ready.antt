@@ -4,6 +4,7 @@ use Rattle.std.proofs.lemmas.Bool.{not-false}
 use Rattle.std.proofs.lemmas.List.Elements.{All-contains}
 use Rattle.std.specs.Option.{option_map_or}
 use Rattle.std.specs.Prelude.{is_none, is_some}
+use Rattle.perm_values.proofs.Lists.{front-none, back-none}
 use Rattle.bag_algebra.proofs.TablesRead.{each_table-from_told}
 use Rattle.bag_algebra.specs.TablesRead.{EachTable, TableRead, tables_read}
 use Rattle.query_facts.specs.monotone.Conditions.{ConditionFits}
@@ -25,7 +26,6 @@ use Rattle.name_meaning.specs.Froms.{names_of, settled_columns}
 use Rattle.name_meaning.specs.Queries.{may_not_ask}
 use Rattle.name_meaning.specs.Statements.{alone, answer_of, columns_of, delete_made, has_boolean, impact_query, query_meant, breaks, name_breaks, limit_breaks, named_query_breaks, on_table, repeated_columns, repeats, resolved, resolved_body, taken, unknown_table, unknown_view, used, view_entry}
 use Rattle.name_meaning.specs.declared.answer.Break.{Break}
-use Rattle.name_meaning.proofs.Every.{front-none, back-none}
 use Rattle.name_meaning.proofs.Impacts.{impact-stands}
 use Rattle.name_meaning.proofs.Named.{view-reads}
 use Rattle.name_meaning.proofs.TreeLaws.{query-answer, query-closed, query-wide}

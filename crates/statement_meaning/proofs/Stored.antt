@@ -8,6 +8,7 @@ use Rattle.std.specs.Prelude.{nat_eq, ℤ}
 use Rattle.perm_values.specs.Rows.{PlacesWithin}
 use Rattle.perm_values.specs.declared.kind.Kind.{Kind}
 use Rattle.perm_values.specs.declared.kind.Kind.TheVariants as kind
+use Rattle.perm_values.proofs.Lists.{back-none}
 use Rattle.bag_algebra.specs.Kinds.{kinds_of, width_of}
 use Rattle.bag_algebra.specs.built.Openings.{Prov-is}
 use Rattle.bag_algebra.specs.built.Patterns.{ProvOf}
@@ -30,7 +31,6 @@ use Rattle.name_meaning.specs.Scopes.{KnownColumn}
 use Rattle.name_meaning.specs.Statements.{alone, columns_of, has_boolean, name_breaks, named_query_breaks, query_meant, repeats, stored_columns, taken}
 use Rattle.name_meaning.specs.Trees.{set_of_tree}
 use Rattle.name_meaning.specs.declared.rule.Rule.TheVariants as rule
-use Rattle.name_meaning.proofs.Every.{back-none}
 use Rattle.name_meaning.proofs.KindsOf.{kinds-settled_columns}
 use Rattle.name_meaning.proofs.TreeLaws.{query-answer, query-closed, query-wide}
 use Rattle.name_meaning.proofs.Trees.{query-known}

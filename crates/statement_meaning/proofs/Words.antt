@@ -2,6 +2,7 @@
 use Rattle.std.proofs.Common.{◌≡◌, ◌∙◌, ℕ, Bool, cond, List, [], ◌∷◌, ◌++◌, map, Option, Some, None, refl, sym, ap, subst}
 use Rattle.std.specs.Option.{option_map_or}
 use Rattle.std.specs.Prelude.{is_some, option_map}
+use Rattle.perm_values.proofs.Lists.{front-none}
 use Rattle.bag_algebra.specs.declared.query.Answer.{Answer}
 use Rattle.bag_algebra.specs.declared.query.Query.{Query}
 use Rattle.bag_algebra.specs.declared.query.Query.TheVariants.{Prov}
@@ -37,7 +38,6 @@ use Rattle.name_meaning.specs.Queries.{SetStepPart, keys_breaks, keys_of, limite
 use Rattle.name_meaning.specs.Statements.{alone, answer_of, name_breaks, query_meant, resolved_body}
 use Rattle.name_meaning.specs.Trees.{body_of, item_of, set_of_tree, source_of, arm_of, step_of, part_of, core_of, query_of, set_step_of, from_item_of, from_of, join_of}
 use Rattle.name_meaning.specs.declared.answer.Break.{Break}
-use Rattle.name_meaning.proofs.Every.{front-none}
 use Rattle.name_meaning.proofs.Trees.{set-known}
 use Rattle.statement_meaning.proofs.Ready.{names-whole}
 use Rattle.statement_meaning.proofs.Answered.{same_answer}

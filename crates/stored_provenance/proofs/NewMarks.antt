@@ -2,6 +2,7 @@
 use Rattle.std.proofs.Common.{◌≡◌, ◌≢◌, ℕ, zero, suc, ◌<◌, Bool, true, false, not, cond, List, [], ◌∷◌, ◌++◌, length, filter, Option, Some, None, refl, sym, ap, subst, ◌∙◌, arith, nat_eq}
 use Rattle.std.proofs.lemmas.List.Elements.{All-nil, All-cons, All-append, Contains-append_left, Contains-append_right}
 use Rattle.std.proofs.lemmas.Option.{same_Some}
+use Rattle.std.proofs.lemmas.Bool.{eqb-true, eq-eqb}
 use Rattle.std.specs.Prelude.{All, Contains, slice_index_or}
 use Rattle.std.specs.List.{flat_map}
 use Rattle.std.specs.Option.{option_map_or}
@@ -28,7 +29,7 @@ use Rattle.perm_catalog.specs.declared.column.Column.{Column}
 use Rattle.perm_catalog.specs.declared.entries.Kept.{Kept}
 use Rattle.perm_catalog.specs.declared.entries.TableEntry.{TableEntry}
 use Rattle.stored_provenance.proofs.Found.{found-named}
-use Rattle.stored_provenance.proofs.Marks.{nat_same, nat_equal, has-entry, all-pass}
+use Rattle.stored_provenance.proofs.Marks.{has-entry, all-pass}
 use Rattle.stored_provenance.proofs.Soundness.{are-apart}
 use Rattle.query_laws.specs.replaced.OverQueries.{ReadsAs}
 use Rattle.stored_provenance.specs.Held.{IsHeldTable}
@@ -77,7 +78,7 @@ in-once : (reads : List TableRead) (read : TableRead) → Contains reads read �
 in-once [] read there = absurd (let low = there.1 in omega (arith, low))
 in-once (first ∷ reads) read there = by (in-once reads read) there.0 there.1 there.2 where
   onward : (once : IsOnce (each_once reads) read.id) (b : Bool) → nat_eq once.read.id first.id ≡ b → IsOnce (first ∷ filter (apart_from first) (each_once reads)) read.id
-  onward once true is = record { read = first; there = (0, omega arith, refl); same = sym (nat_same once.read.id first.id is) ∙ once.same }
+  onward once true is = record { read = first; there = (0, omega arith, refl); same = sym (eqb-true once.read.id first.id is) ∙ once.same }
   onward once false is = record {
     read = once.read;
     there = Contains-append_right (first ∷ []) (filter (apart_from first) (each_once reads)) once.read (in-filter (apart_from first) (each_once reads) once.read (ap not is) once.there);
@@ -109,7 +110,7 @@ module _ (c : Contents) (sound : IsSound c) where
   unchanged-by read (Some e) is =
       All-cons (λ kept. is_unchanged c kept ≡ true) (as_kept e) []
       (ap (λ o. option_map_or (λ (f : List ℕ × TableEntry). nat_eq f.1.version e.1.version) o false) (ap (entry_of_id c) (entry-id c read.id e is) ∙ is)
-      ∙ nat_equal e.1.version e.1.version refl)
+      ∙ eq-eqb e.1.version e.1.version refl)
       (All-nil (λ kept. is_unchanged c kept ≡ true))
 
   same-table : (id : ℕ) (kinds : List Kind) (held : IsHeldTable c id kinds) (name : List ℕ) (table : TableEntry) → table_named c name ≡ Some table →

@@ -10,6 +10,7 @@ use Rattle.bag_algebra.specs.declared.query.JoinKind.TheVariants as join
 use Rattle.perm_catalog.specs.Contents.{Contents}
 use Rattle.perm_catalog.specs.Sound.{IsSound}
 use Rattle.perm_values.specs.declared.kind.Kind.{Kind}
+use Rattle.perm_values.proofs.Lists.{front-none, back-none}
 use Rattle.sql_tree.specs.Regular.{is_lateral}
 use Rattle.sql_tree.specs.declared.name.ColRef.{ColRef}
 use Rattle.sql_tree.specs.declared.query.Core.{Core, out-Core}
@@ -33,7 +34,7 @@ use Rattle.name_meaning.specs.Queries.{SetStepPart, asks_provenance, columns_so_
 use Rattle.name_meaning.specs.Scopes.{KnownColumn, ScopeItem, scope_of}
 use Rattle.name_meaning.specs.Trees.{core_of, from_item_of, from_of, item_of, join_of, part_of, query_of, set_of_tree, set_step_of, source_of}
 use Rattle.name_meaning.specs.declared.scope.Scope.{Scope}
-use Rattle.name_meaning.proofs.Every.{back-none, front-none, none-whole, whole-none}
+use Rattle.name_meaning.proofs.Every.{none-whole, whole-none}
 use Rattle.name_meaning.proofs.Lateral.{join-lateral, join-plain, lateral_item, plain_item, plainly}
 use Rattle.name_meaning.proofs.Trees.{item-known}
 use Rattle.name_meaning.specs.laws.Known.{ItemIsKnown}

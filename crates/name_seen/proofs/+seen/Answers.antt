@@ -34,6 +34,7 @@ use Rattle.name_seen_cores.proofs.Sublinked.{exists-looked, inner-refused, looke
 use Rattle.name_seen.proofs.WhereSeen.{meant_here, operand_here, operands_here}
 use Rattle.std.specs.Prelude.{◌+◌, Bool, Option}
 use Rattle.std.proofs.Common.{take, drop}
+use Rattle.perm_values.proofs.Results.{ok-anyway}
 use Rattle.sql_tree.specs.declared.query.Core.{out-Core}
 use Rattle.sql_tree.specs.declared.source.FromTree.{FromTree, out-FromTree}
 use Rattle.sql_tree.specs.declared.source.JoinStep.{JoinStep, out-JoinStep}
@@ -60,7 +61,7 @@ use Rattle.name_seen_cores.specs.from.Readings.{ItemAdded, ItemSeen, ReadSeen}
 use Rattle.name_seen.proofs.Conditions.{some-condition}
 use Rattle.name_seen.proofs.CoreSteps.{core-answered, from-answered, from-refused, groups-refused, has-from, having-refused, where-refused, word-refused}
 use Rattle.name_seen.proofs.FromTrees.{from-means, inner-read, item-refused, item-means, joined-condition, joined-item, joined-word, lateral-means, named-read, read-refused}
-use Rattle.name_seen.proofs.Joined.{first-refused, first-whole, join-behind, join-refused, joins-behind, lateral-seen, never-if_ok, never-ok, none-held, nothing-read, source-refused, step-refused, whatever-ok}
+use Rattle.name_seen.proofs.Joined.{first-refused, first-whole, join-behind, join-refused, joins-behind, lateral-seen, never-if_ok, never-ok, none-held, nothing-read, source-refused, step-refused}
 use Rattle.name_meaning.proofs.Lateral.{join-lateral, join-plain, lateral_item, plain_item}
 use Rattle.sql_tree.specs.Regular.{is_lateral}
 use Rattle.name_seen.specs.Joining.{JoinSeen}
@@ -736,7 +737,7 @@ pub sources::join_seen-returns-in_err-from_item-clause-named : goal.sources::joi
 sources::join_seen-returns-in_err-from_item-clause-named t c = never-ok _ c.from_residual.result _ c.from_residual.ensures.1
 
 pub sources::join_seen-returns-clause-named : goal.sources::join_seen-returns-clause-named
-sources::join_seen-returns-clause-named t c = whatever-ok c.condition_seen.result c.in_ok-from_item.ensures.named
+sources::join_seen-returns-clause-named t c = ok-anyway c.condition_seen.result c.in_ok-from_item.ensures.named
 
 pub sources::source_items-returns-in_err-from_item-clause-seen : goal.sources::source_items-returns-in_err-from_item-clause-seen
 sources::source_items-returns-in_err-from_item-clause-seen t c =

@@ -1,6 +1,7 @@
 -- A statement is refused by the first rule that it breaks. It draws one number at most, and wants the last one only where
 -- that is the next.
 use Rattle.std.proofs.Common.{◌≡◌, ◌≢◌, ◌∙◌, ℕ, ◌+◌, ◌≤◌, ◌<◌, Bool, true, false, cond, nat_eq, List, [], ◌∷◌, length, None, Ok, Err, codes, refl, sym, ap, subst, arith}
+use Rattle.std.proofs.lemmas.Bool.{eqb-true}
 use Rattle.std.specs.List.{count_by}
 use Rattle.perm_values.specs.Numbers.{last_number}
 use Rattle.perm_values.specs.declared.kind.Kind.{Kind}
@@ -12,7 +13,6 @@ use Rattle.bag_algebra.specs.TableRows.{rows_in}
 use Rattle.bag_algebra.specs.declared.query.Answer.{Answer}
 use Rattle.csv_tables.specs.Loading.{broken_rules, spelled_rows}
 use Rattle.csv_tables.specs.declared.data_error.DataError.{DataError}
-use Rattle.stored_provenance.proofs.Marks.{nat_same}
 use Rattle.perm_catalog.specs.Changes.{rows_at, with_table, with_fewer_rows}
 use Rattle.perm_catalog.specs.Contents.{Contents}
 use Rattle.perm_catalog.specs.declared.column.Column.{Column}
@@ -61,7 +61,7 @@ module _ (c : Contents) where
   frugal-drawing : (at : ℕ) (text : List ℕ) (new : Contents) → new.next ≡ c.next + 1 → IsFrugal c (drawing c at (Accepted text new))
   frugal-drawing at text new h = chosen (nat_eq c.next last_number) refl where
     chosen : (spent : Bool) → nat_eq c.next last_number ≡ spent → IsFrugal c (cond spent (Refused (Broken (broken rule.NumbersSpent at))) (Accepted text new))
-    chosen true e = nat_same c.next last_number e
+    chosen true e = eqb-true c.next last_number e
     chosen false e = omega (arith, h)
 
   frugal-on_good : {X : Type 0} (at : ℕ) (o : Outcome X) (next : X → Turn) → ((x : X) → IsFrugal c (next x)) → IsFrugal c (on_good at o next)

@@ -1,6 +1,7 @@
 -- In FROM, a query with the word PROVENANCE is a source over the PROVENANCE of the same query without it.
 use Rattle.std.proofs.Common.{◌≡◌, ◌∙◌, ℕ, Bool, cond, List, [], ◌++◌, map, is_some, option_map, Option, Some, None, refl, sym, ap, subst}
 use Rattle.std.specs.Option.{option_map_or}
+use Rattle.perm_values.proofs.Lists.{front-none, back-none}
 use Rattle.bag_algebra.specs.declared.query.Query.{Query}
 use Rattle.bag_algebra.specs.declared.query.Query.TheVariants.{Prov}
 use Rattle.perm_catalog.specs.Contents.{Contents}
@@ -12,7 +13,6 @@ use Rattle.sql_tree.specs.declared.query.SetTree.{SetTree}
 use Rattle.sql_tree.specs.declared.statement.Statement.{Statement}
 use Rattle.sql_tree.specs.declared.statement.StatementBody.{StatementBody}
 use Rattle.sql_tree.specs.declared.statement.StatementBody.TheVariants as st
-use Rattle.name_meaning.proofs.Every.{back-none, front-none}
 use Rattle.name_meaning.proofs.Equations.{token, querytree-record, settree-chain, settree-core}
 use Rattle.name_meaning.proofs.Opened.{Layer_core, opened_core, shown_core}
 use Rattle.name_meaning.specs.Cores.{BodyPart, core_step}

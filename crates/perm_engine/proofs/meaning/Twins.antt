@@ -2,6 +2,7 @@
 use Rattle.std.proofs.Common.{◌≡◌, ◌∙◌, ◌≤◌, ℕ, Bool, true, false, cond, ◌||◌, List, [], ◌∷◌, ◌++◌, find, nat_lt, option_map, Option, Some, None, length-append, refl, sym, ap, subst, arith}
 use Rattle.std.proofs.lemmas.Bool.{le-ltb, ltb-false}
 use Rattle.std.specs.Option.{option_map_or}
+use Rattle.perm_values.proofs.Lists.{front-none, back-none}
 use Rattle.bag_algebra.specs.Measures.{height_of, size_of}
 use Rattle.bag_algebra.specs.built.Openings.{Prov-is}
 use Rattle.bag_algebra.specs.declared.query.Answer.{Answer}
@@ -14,7 +15,6 @@ use Rattle.sql_tree.specs.declared.statement.Statement.{Statement}
 use Rattle.sql_tree.specs.declared.statement.StatementBody.{StatementBody}
 use Rattle.sql_tree.specs.declared.statement.StatementBody.TheVariants as st
 use Rattle.bag_algebra.proofs.Truths.{left-false, right-false}
-use Rattle.name_meaning.proofs.Every.{front-none, back-none}
 use Rattle.name_meaning.specs.Meanings.{OutColumn, QueryMeant, broken, broken_if, is_whole}
 use Rattle.name_meaning.specs.Queries.{columns_with_provenance, count_columns, plain_query, provenance_columns, query_with_provenance}
 use Rattle.name_meaning.specs.Statements.{breaks, greatest_height, limit_breaks, most_operators, most_query_columns, name_breaks, query_limits, size_limit, width_limit}

@@ -11,12 +11,13 @@ use Rattle.name_inside.specs.Passed.{HasWidth, IsReadAs}
 use Rattle.name_inside.proofs.Arms.{aggregate_adds, arm-adds, between_adds, case_adds, chain_adds, coalesce_adds, column_adds, compared_adds, exists_adds, inlist_adds, inquery_adds, integer_adds, isdistinct_adds, isnull_adds, istruth_adds, like_adds, logic_adds, nots_adds, null_adds, nullif_adds, nullof_adds, paren_adds, quantified_adds, scalar_adds, signs_adds, step-adds, text_adds, truth_adds}
 use Rattle.name_inside.proofs.Cores.{chain-stands, clauses-adds, core-adds, core-broken, core-stands, inner-adds, named-adds, operand-adds, paren-stands, query-adds, star-adds, table_star-adds, value-adds, first-added, join-tree, lateral-tree, no-sources, source-more, step-added}
 use Rattle.name_inside.proofs.Gone.{flat-more, mapped-more}
-use Rattle.name_inside.proofs.Over.{adds-alike, adds-both, adds-over, ok-anyway, when-ok}
+use Rattle.name_inside.proofs.Over.{adds-alike, adds-both, adds-over}
 use Rattle.name_inside.proofs.gathering.+gathering.Goals as goal
 use Rattle.name_made_parts.proofs.AskedListing.{mapped}
 use Rattle.name_made_parts.proofs.Sourcing.{from-fields}
 use Rattle.name_meaning.specs.Froms.{first_item, from_all, in_clause, in_from, join_all, FromMeant, FromPart}
 use Rattle.std.proofs.lemmas.List.{take_all}
+use Rattle.perm_values.proofs.Results.{when-ok, ok-anyway}
 use Rattle.sql_tree.specs.declared.source.FromTree.{out-FromTree}
 use Rattle.sql_tree.specs.declared.source.JoinStep.{JoinStep}
 

@@ -1,7 +1,7 @@
 use Rattle.std.proofs.Common.{take, ap, ◌∙◌}
+use Rattle.perm_values.proofs.Lists.{taken}
 use Rattle.bag_algebra.specs.Outcome.{each}
 use Rattle.row_values.proofs.Outcomes.{passed, each_item, each_good}
-use Rattle.row_values.proofs.Taken.{taken}
 use Rattle.statement_meaning.specs.Turns.{goes}
 use Rattle.statement_steps.proofs.changes.deleting.doomed.Goals as goal
 

@@ -1,9 +1,9 @@
 use Rattle.std.proofs.Common.{[], take, ap, ◌∙◌}
+use Rattle.perm_values.proofs.Lists.{taken}
 use Rattle.bag_algebra.specs.Expressions.{value}
 use Rattle.bag_algebra.specs.Outcome.{each}
 use Rattle.bag_algebra.specs.declared.expr.Expr.{Expr}
 use Rattle.row_values.proofs.Outcomes.{passed, each_item, each_good}
-use Rattle.row_values.proofs.Taken.{taken}
 use Rattle.statement_steps.proofs.changes.inserting.row_value.Goals as goal
 
 pub returns-in_err-value : goal.returns-in_err-value
