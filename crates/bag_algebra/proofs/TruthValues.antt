@@ -15,6 +15,11 @@ holds-truth True = refl
 holds-truth False = refl
 holds-truth Unknown = refl
 
+pub truth_of-value : (t : Truth) → truth_of (value_of t) ≡ t
+truth_of-value True = refl
+truth_of-value False = refl
+truth_of-value Unknown = refl
+
 pub holds-both : (a b : Truth) → is_true (truth_of (value_of (truth_and a (truth_and b True)))) ≡ (is_true a && is_true b)
 holds-both True True = refl
 holds-both True False = refl

@@ -5,6 +5,7 @@ use Rattle.perm_values.specs.Rows.{picked, PlacesWithin}
 use Rattle.perm_values.specs.declared.kind.Kind.{Kind}
 use Rattle.perm_values.specs.declared.kind.Kind.TheVariants.{Text}
 use Rattle.perm_values.specs.declared.value.Value.TheVariants.{Null}
+use Rattle.perm_values.proofs.Steps.{by}
 use Rattle.bag_algebra.proofs.Members.{IsIn, in-map, from-map, in-member}
 use Rattle.bag_algebra.proofs.TablesRead.{reads_among-each, reads_among-itself}
 use Rattle.bag_algebra.proofs.Truths.{both-true}
@@ -45,7 +46,7 @@ use Rattle.rewrite_core.proofs.JoinedOutcomes.{Related, rewritten-from_related}
 use Rattle.rewrite_core.proofs.KeptRewriting.{rewriting-related}
 use Rattle.rewrite_core.proofs.KeptRows.{row-width, list-width, length-nulls, nulls-of_rewriting, flat-append}
 use Rattle.rewrite_core.specs.rewritings.Rewritten.{Beside}
-use Rattle.rewrite_sublink.proofs.LongerRows.{by, names-rewriting}
+use Rattle.rewrite_sublink.proofs.LongerRows.{names-rewriting}
 use Rattle.rewrite_sublink.proofs.NodeRows.{Reaching, reaching-over}
 use Rattle.rewrite_sublink.proofs.SublinkRows.{good-related}
 use Rattle.lateral_rewrite.proofs.BesideRows.{good-bag}

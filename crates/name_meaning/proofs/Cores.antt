@@ -7,6 +7,7 @@ use Rattle.perm_values.specs.Rows.{PlacesWithin}
 use Rattle.perm_values.specs.declared.kind.Kind.{Kind}
 use Rattle.perm_values.specs.declared.kind.Kind.TheVariants.{Boolean}
 use Rattle.perm_values.proofs.Lists.{front-none, back-none}
+use Rattle.perm_values.proofs.Steps.{by}
 use Rattle.bag_algebra.specs.built.Openings.{kinds_of-Filter, kinds_of-Aggregate}
 use Rattle.bag_algebra.specs.built.Forms.{subs_kinds, WellFormed-Filter, WellFormed-Project, WellFormed-Distinct, WellFormed-Aggregate}
 use Rattle.bag_algebra.specs.Kinds.{kinds_of, kinds_in, width_of, aggregate_kinds}
@@ -35,9 +36,6 @@ use Rattle.name_meaning.proofs.Needs.{settled-of_kind}
 use Rattle.name_meaning.proofs.Standing.{stand-whole, aggregates-append}
 use Rattle.name_meaning.specs.declared.rule.Rule.TheVariants as rule
 use Rattle.name_meaning.proofs.Every.{whole-kind, unbroken}
-
-pub by : {A B : Type 0} → A ≡ B → A → B
-by e h = subst (λ (X : Type 0). X) e h
 
 -- ---- conditions
 

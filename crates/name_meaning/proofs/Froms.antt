@@ -12,6 +12,7 @@ use Rattle.perm_values.specs.Rows.{PlacesWithin}
 use Rattle.perm_values.specs.declared.kind.Kind.{Kind}
 use Rattle.perm_values.specs.declared.kind.Kind.TheVariants.{Boolean}
 use Rattle.perm_values.proofs.Lists.{front-none, back-none}
+use Rattle.perm_values.proofs.Steps.{by}
 use Rattle.bag_algebra.specs.Bags.{Bag}
 use Rattle.bag_algebra.specs.built.Openings.{kinds_of-Join, kinds_of-Apply}
 use Rattle.bag_algebra.specs.built.Forms.{subs_kinds, WellFormed-Base, WellFormed-Join, WellFormed-Apply}
@@ -51,7 +52,7 @@ use Rattle.name_meaning.specs.declared.scope.ScopeColumn.{ScopeColumn}
 use Rattle.name_meaning.specs.laws.Known.{column_kinds_of, items_kinds}
 use Rattle.name_meaning.specs.laws.Standing.{StandAt, HoldsScope, RowsHold, AggregatesStand}
 use Rattle.name_meaning.proofs.Arms.{GoodOptional}
-use Rattle.name_meaning.proofs.Cores.{by, formed-condition}
+use Rattle.name_meaning.proofs.Cores.{formed-condition}
 use Rattle.name_meaning.proofs.Sublinks.{GoodQuery}
 use Rattle.name_meaning.specs.declared.rule.Rule.TheVariants as rule
 use Rattle.name_meaning.proofs.Every.{unbroken-not}

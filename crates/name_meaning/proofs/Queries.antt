@@ -9,6 +9,7 @@ use Rattle.perm_values.specs.declared.key.Key.{Key}
 use Rattle.perm_values.specs.declared.kind.Kind.{Kind}
 use Rattle.perm_values.specs.declared.kind.Kind.TheVariants.{Text}
 use Rattle.perm_values.proofs.Lists.{front-none, back-none}
+use Rattle.perm_values.proofs.Steps.{by}
 use Rattle.bag_algebra.specs.built.Openings.{kinds_of-Prov}
 use Rattle.bag_algebra.specs.built.Forms.{WellFormed-Union, WellFormed-Intersect, WellFormed-Except, WellFormed-Limit, WellFormed-Prov}
 use Rattle.bag_algebra.specs.Kinds.{kinds_of, width_of, shape, place_kinds}
@@ -27,7 +28,6 @@ use Rattle.name_meaning.specs.Queries.{SetStepPart, set_of, united_columns, do_u
 use Rattle.name_meaning.specs.declared.answer.Break.{Break}
 use Rattle.name_meaning.specs.laws.Known.{HasItsKinds}
 use Rattle.name_meaning.specs.laws.Standing.{RowsHold}
-use Rattle.name_meaning.proofs.Cores.{by}
 use Rattle.name_meaning.proofs.Froms.{range-in, position-in}
 use Rattle.name_meaning.specs.declared.rule.Rule.TheVariants as rule
 use Rattle.name_meaning.proofs.Every.{unbroken, unbroken-not}

@@ -2,4 +2,5 @@ pub mod Keeping
 pub mod Lists
 pub mod Ranges
 pub mod Results
+pub mod Steps
 pub mod Taken

@@ -1,5 +1,5 @@
 -- What is in a list, and what evaluating each item of a list gives.
-use Rattle.std.proofs.Common.{◌≡◌, inl, inr, ℕ, zero, suc, Some, List, [], ◌∷◌, length, refl, sym, ap, subst, ◌∙◌}
+use Rattle.std.proofs.Common.{◌≡◌, inl, inr, ℕ, zero, suc, Some, List, [], ◌∷◌, refl, sym, ap, subst, ◌∙◌}
 use Rattle.std.proofs.lemmas.Option.{none-some, same_Some}
 use Rattle.std.specs.List.{slice_get}
 use Rattle.bag_algebra.proofs.Members.{IsIn}
@@ -28,12 +28,6 @@ from-each f (z ∷ xs) ys y e h =
         (IsIn y vs → (x : X) × IsIn x xs × (f x ≡ Good y)) → (x : X) × IsIn x (z ∷ xs) × (f x ≡ Good y)
     first f z xs y v vs here (inl same) after = (z, inl refl, here ∙ ap Good same)
     first f z xs y v vs here (inr there) after = let found = after there in (found.0, inr found.1, found.2)
-
-pub each-long : {X Y : Type 0} (f : X → Outcome Y) (xs : List X) (ys : List Y) → each f xs ≡ Good ys → length ys ≡ length xs
-each-long f [] ys e = ap length (sym (same_good [] ys e))
-each-long f (x ∷ xs) ys e =
-    let parts = both-is (λ v vs. v ∷ vs) (f x) (each f xs) ys e in
-    ap length (sym parts.4) ∙ ap suc (each-long f xs parts.1 parts.3)
 
 pub each-at : {X Y : Type 0} (f : X → Outcome Y) (xs : List X) (ys : List Y) → each f xs ≡ Good ys → (place : ℕ) (x : X) → slice_get xs place ≡ Some x →
     (y : Y) × (slice_get ys place ≡ Some y) × (f x ≡ Good y)

@@ -8,6 +8,7 @@ use Rattle.perm_values.specs.declared.kind.Kind.TheVariants.{Boolean}
 use Rattle.perm_values.specs.declared.value.Value.{Value}
 use Rattle.bag_algebra.proofs.Members.{IsIn}
 use Rattle.bag_algebra.proofs.NeverBad.{good-value}
+use Rattle.bag_algebra.proofs.Outcomes.{good_value-is}
 use Rattle.bag_algebra.proofs.TruthValues.{holds-both}
 use Rattle.bag_algebra.specs.Bags.{Row, Bag}
 use Rattle.bag_algebra.specs.built.Openings.{value-Op}
@@ -17,7 +18,7 @@ use Rattle.bag_algebra.specs.Fits.{row_begins}
 use Rattle.bag_algebra.specs.Kinds.{kinds_of, width_of}
 use Rattle.bag_algebra.specs.Meaning.{Database, meaning, condition_on, items_on}
 use Rattle.bag_algebra.specs.Means.{holds_of, kept, no_subs, good_row, good_value}
-use Rattle.bag_algebra.specs.Outcome.{Outcome, Good, Bad, and_then, mapped, both, gather, each, is_good}
+use Rattle.bag_algebra.specs.Outcome.{Outcome, Good, Bad, and_then, mapped, both, gather, each}
 use Rattle.bag_algebra.specs.WellFormed.{HasKind, ItemsForm, WellFormed}
 use Rattle.bag_algebra.specs.declared.expr.Expr.{Expr}
 use Rattle.bag_algebra.specs.declared.expr.Expr.TheVariants.{Op}
@@ -84,10 +85,6 @@ both_tests test other x env t y h e made =
       by_test (Good v) =
           ap Good (kept-twice t h (holds_of v) (holds_of y) made ∙ ap (λ b. cond b (t ∷ []) []) (sym (holds-both (truth_of v) (truth_of y))))
       by_test (Bad faults) = refl
-
-good_value-is : (o : Outcome Value) → is_good o ≡ true → o ≡ Good (good_value o)
-good_value-is (Good v) w = refl
-good_value-is (Bad faults) w = absurd (cc w)
 
 -- ---- items placed
 

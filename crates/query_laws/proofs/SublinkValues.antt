@@ -16,10 +16,11 @@ use Rattle.bag_algebra.specs.Outcome.{Outcome, Good, Bad, each, only}
 use Rattle.bag_algebra.specs.declared.query.SubKind.TheVariants.{Exists, Any, All, Scalar}
 use Rattle.query_laws.specs.Evaluated.{IsEvaluated}
 use Rattle.query_laws.specs.Holding.{InBag}
-use Rattle.query_laws.proofs.Items.{each-long, each-at}
+use Rattle.query_laws.proofs.Items.{each-at}
 use Rattle.query_laws.proofs.Outcomes.{over-each, in_bag-in, in-in_bag}
 use Rattle.std.proofs.lemmas.Bool.{or_right, or_from}
 use Rattle.bag_algebra.proofs.MembersByIndex.{in-from_contains, contains-from_in}
+use Rattle.bag_algebra.proofs.Outcomes.{each-long}
 
 pub each-evaluated : {X Y : Type 0} (f : X → Outcome Y) (xs : List X) → IsEvaluated f xs (each f xs)
 each-evaluated f xs =

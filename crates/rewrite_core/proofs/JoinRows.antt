@@ -9,6 +9,7 @@ use Rattle.perm_values.specs.declared.kind.Kind.TheVariants.{Boolean, Text}
 use Rattle.perm_values.specs.declared.value.Value.{Value}
 use Rattle.perm_values.specs.declared.value.Value.TheVariants.{Null}
 use Rattle.bag_algebra.proofs.Members.{IsIn, in-filter, from-filter, in-map, from-map, in-member}
+use Rattle.bag_algebra.proofs.Outcomes.{mapped-is}
 use Rattle.bag_algebra.proofs.TablesRead.{each_table-kept}
 use Rattle.bag_algebra.proofs.Widths.{place_kinds-append, places_width}
 use Rattle.bag_algebra.specs.Bags.{Row, Bag, nulls}
@@ -34,7 +35,7 @@ use Rattle.contribution.proofs.ColumnQueries.{formed-columns, kinds_of-columns, 
 use Rattle.contribution.proofs.NodeQueries.{formed-pairs, meaning-pairs, plain-pairs, plain-projected}
 use Rattle.contribution.specs.MovedColumns.{IsMoved}
 use Rattle.bag_algebra.proofs.Truths.{both-true}
-use Rattle.rewrite_core.proofs.Faults.{SameFaults, kept-alike, gather-bad_alike, good-mapped, mapped-same_faults, same_faults-then}
+use Rattle.rewrite_core.proofs.Faults.{SameFaults, kept-alike, gather-bad_alike, mapped-same_faults, same_faults-then}
 use Rattle.rewrite_core.proofs.KeptRows.{flat-append, flat-all_empty, length-nulls, nulls-append, list-width}
 use Rattle.rewrite_core.proofs.JoinColumns.{all-columns, all-within, own-columns, own-within}
 use Rattle.rewrite_core.proofs.FlatRows.{Flattened, flattened, stands_beside}
@@ -403,7 +404,7 @@ module _ (kind : JoinKind) (left left_rewriting right right_rewriting : Query) (
           faults = same_faults-then (map (picked order)) (joined_rows kind meets (width_of left) (width_of right) us vs) (joined_rows kind meets_longer (width_of left_rewriting) (width_of right_rewriting) xs ys)
               (mapped-same_faults _ _ (met_pairs meets us vs) (met_pairs meets_longer xs ys) faults);
           rows = λ ts zs e f.
-              let found = good-mapped (map (picked order)) (joined_rows kind meets_longer (width_of left_rewriting) (width_of right_rewriting) xs ys) zs f in
+              let found = mapped-is (map (picked order)) (joined_rows kind meets_longer (width_of left_rewriting) (width_of right_rewriting) xs ys) zs f in
               record {
                 there = λ t w i c.
                     let row = there-list found.0 found.1 t w ((listed t w).0 c).1 in

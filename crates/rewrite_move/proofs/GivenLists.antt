@@ -6,7 +6,7 @@ use Rattle.perm_values.specs.Rows.{same_row, picked}
 use Rattle.perm_values.specs.ValueLaws.{row_decides}
 use Rattle.bag_algebra.proofs.Columns.{in-with_lists, from-with_lists}
 use Rattle.bag_algebra.proofs.Members.{IsIn, in-map, in-flat_map, from-flat_map, in-filter}
-use Rattle.bag_algebra.proofs.Outcomes.{both-is, mapped-is, same_good}
+use Rattle.bag_algebra.proofs.Outcomes.{both-is, mapped-is, same_good, each-long}
 use Rattle.bag_algebra.specs.Bags.{Row, Bag, once}
 use Rattle.bag_algebra.specs.Means.{Means, Witness, with_lists, gives, good_row, good_rows, project_means, distinct_means, aggregate_means, aggregates_of, class_keys, class_of, class_row, class_lists, grouped}
 use Rattle.bag_algebra.specs.Outcome.{Outcome, Good, Bad, and_then, mapped, each}
@@ -14,7 +14,7 @@ use Rattle.bag_algebra.specs.declared.query.AggFn.{AggFn}
 use Rattle.contribution.proofs.BagMembers.{in-once}
 use Rattle.contribution.proofs.Classes.{take-picked}
 use Rattle.contribution.proofs.NoRowLost.{gives-good}
-use Rattle.query_laws.proofs.Items.{each-in, each-long}
+use Rattle.query_laws.proofs.Items.{each-in}
 
 -- a list of some row, or the all-empty one where there is no row
 pub data Given (m : Means) (blank c : Witness) : Type 0 where

@@ -6,6 +6,7 @@ use Rattle.null_logic.specs.declared.truth.Truth.{Truth}
 use Rattle.null_logic.specs.declared.truth.Truth.TheVariants.{True, False, Unknown}
 use Rattle.perm_values.specs.declared.kind.Kind.{Kind}
 use Rattle.perm_values.specs.declared.value.Value.{Value}
+use Rattle.perm_values.proofs.Steps.{by}
 use Rattle.bag_algebra.proofs.Outcomes.{both-is}
 use Rattle.bag_algebra.specs.Bags.{Row}
 use Rattle.bag_algebra.specs.built.Forms.{AllSubsForm, SubsForm-row_of_subs}
@@ -50,7 +51,6 @@ use Rattle.rewrite_move.specs.declared.share.Share.TheVariants.{AllRows, Matchin
 use Rattle.rewrite_move.specs.Traced.{below_by, below_groups, traced_by, traced_of}
 use Rattle.rewrite_sublink.proofs.AllSublinks.{Splits, no_step, one_step_given}
 use Rattle.rewrite_sublink.proofs.FilterRows.{rewrite-Filter_given}
-use Rattle.rewrite_sublink.proofs.LongerRows.{by}
 use Rattle.rewrite_sublink.proofs.ProjectRows.{rewrite-Project_with}
 use Rattle.rewrite_sublink.proofs.Steps.{SubsFitting, OnRows, Step, StepGiven, Steps, StepsGiven}
 use Rattle.rewrite_sublink.specs.Candidates.{answer_columns, beside_row}

@@ -8,8 +8,9 @@ use Rattle.perm_values.specs.declared.kind.Kind.{Kind}
 use Rattle.perm_values.specs.declared.kind.Kind.TheVariants as kind
 use Rattle.perm_values.specs.declared.value.Value.{Value}
 use Rattle.perm_values.specs.declared.value.Value.TheVariants.{Null}
+use Rattle.perm_values.proofs.Steps.{by}
 use Rattle.bag_algebra.proofs.Members.{IsIn, in-map, from-map, in-member}
-use Rattle.bag_algebra.proofs.Outcomes.{mapped-is}
+use Rattle.bag_algebra.proofs.Outcomes.{mapped-is, first-of_good}
 use Rattle.bag_algebra.proofs.TablesRead.{reads_among-each, reads_among-itself}
 use Rattle.bag_algebra.proofs.Widths.{place_kinds-append}
 use Rattle.bag_algebra.specs.Bags.{Row, Bag}
@@ -44,8 +45,8 @@ use Rattle.rewrite_core.proofs.BesideLists.{same-from_rewritten}
 use Rattle.rewrite_core.specs.rewritings.Rewritten.{Beside}
 use Rattle.rewrite_core.proofs.Faults.{SameFaults, same_faults-made, each-bad_alike, in-each}
 use Rattle.rewrite_core.proofs.FlatRows.{Flattened, flattened, row-begins, stands_beside}
-use Rattle.rewrite_sublink.proofs.LongerRows.{by, flat-behind, names-rewriting, subs-named, values-longer, contributes-longer, contributes-shorter}
-use Rattle.rewrite_sublink.proofs.NodeRows.{first-of_good, kinds-whole, tables-whole, formed-whole, good-whole, bad-whole, Reaching, reaching-over}
+use Rattle.rewrite_sublink.proofs.LongerRows.{flat-behind, names-rewriting, subs-named, values-longer, contributes-longer, contributes-shorter}
+use Rattle.rewrite_sublink.proofs.NodeRows.{kinds-whole, tables-whole, formed-whole, good-whole, bad-whole, Reaching, reaching-over}
 use Rattle.rewrite_sublink.proofs.Steps.{SubsFitting, HasValues, Reached, Steps}
 use Rattle.rewrite_sublink.specs.Candidates.{beside_row, answer_places, answer_columns}
 use Rattle.query_laws.proofs.AnswerRows.{answer-in, answer-from}

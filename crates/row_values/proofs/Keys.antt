@@ -7,7 +7,7 @@ use Rattle.std.proofs.lemmas.Bool.{eq-eqb}
 use Rattle.std.specs.List.{list_any, slice_get}
 use Rattle.indexmap.specs.IndexSet.{insert_key}
 use Rattle.perm_values.specs.Rows.{same_row, picked}
-use Rattle.bag_algebra.proofs.BagLaws.{same_row-is, same_row-refl, same_row-sym, member-once, count-once, at_most_one}
+use Rattle.bag_algebra.proofs.BagLaws.{same_row-is, same_row-refl, same_row-sym, member-once, keys-once}
 use Rattle.bag_algebra.specs.Bags.{Row, Bag, count, member, once}
 use Rattle.bag_algebra.specs.Means.{class_keys, class_of}
 use Rattle.row_values.specs.Groups.{IsClassed, numbered}
@@ -85,10 +85,6 @@ numbers_within groups us keys numbers c = each numbers us c.found
 
 -- ---- each key stands at one place
 
-pub once-keys : (groups : List ℕ) (us : Bag) (key : Row) → count key (class_keys groups us) ≤ 1
-once-keys [] us key = at_most_one (same_row [] key)
-once-keys (group ∷ groups) us key = subst (λ n. n ≤ 1) (sym (count-once key (map (picked (group ∷ groups)) us))) (at_most_one (member key (map (picked (group ∷ groups)) us)))
-
 counted : (keys : Bag) (n : ℕ) (key : Row) → slice_get keys n ≡ Some key → 0 < count key keys
 counted [] n key e = absurd (cc e)
 counted (k ∷ keys) zero key e = rw (ap (λ x. same_row x key) (same_Some k key e) ∙ same_row-refl key) (omega arith)
@@ -128,7 +124,7 @@ pub numbered-is : (groups : List ℕ) (us keys : Bag) (numbers : List ℕ) (numb
 numbered-is groups us keys numbers number key c at = rows numbers us c.found
   where
     single : count key keys ≤ 1
-    single = subst (λ ks. count key ks ≤ 1) (sym c.classes) (once-keys groups us key)
+    single = subst (λ ks. count key ks ≤ 1) (sym c.classes) (keys-once groups us key)
 
     other : (n : ℕ) (v : Row) → slice_get keys n ≡ Some (picked groups v) → same_row (picked groups v) key ≡ false → n ≢ number
     other n v e f g =

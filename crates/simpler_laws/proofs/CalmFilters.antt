@@ -6,6 +6,7 @@ use Rattle.std.proofs.lemmas.Bool.{and_from}
 use Rattle.perm_values.specs.declared.kind.Kind.{Kind}
 use Rattle.perm_values.specs.declared.kind.Kind.TheVariants as kind
 use Rattle.perm_values.specs.declared.value.Value.{Value}
+use Rattle.perm_values.proofs.Steps.{by}
 use Rattle.bag_algebra.proofs.NeverBad.{good-query, good-value, good-both, good-option}
 use Rattle.bag_algebra.proofs.Truths.{left-true, right-true, both-true}
 use Rattle.bag_algebra.specs.Bags.{Row, Bag}
@@ -36,7 +37,7 @@ use Rattle.rewrite_core.proofs.Itself.{stands-onward}
 use Rattle.simpler_laws.proofs.Gathered.{filter-good, filter-twice, mapped-twice}
 use Rattle.simpler_laws.proofs.Parting.{two-halves, passed, faultless-passed, have-passed}
 use Rattle.simpler_laws.proofs.Reading.{value-read, kind-read}
-use Rattle.simpler_laws.proofs.TestedQueries.{by, stands-same, kinds-tested, plain-tested, tables-tested, tables-untested, formed-tested, formed-untested, meaning-tested}
+use Rattle.simpler_laws.proofs.TestedQueries.{stands-same, kinds-tested, plain-tested, tables-tested, tables-untested, formed-tested, formed-untested, meaning-tested}
 use Rattle.simpler_laws.proofs.Testing.{all_hold-faultless, all_hold-formed, all_hold-met, conjuncts-faultless, conjuncts-formed, conjuncts-met, have-append}
 use Rattle.simpler_laws.specs.Conjuncts.{conjuncts}
 use Rattle.simpler_laws.specs.Parts.{is_bound, is_free, IsParted}

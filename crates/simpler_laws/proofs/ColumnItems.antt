@@ -6,6 +6,7 @@ use Rattle.perm_values.specs.Rows.{picked, PlacesWithin}
 use Rattle.perm_values.specs.declared.kind.Kind.{Kind}
 use Rattle.perm_values.specs.declared.kind.Kind.TheVariants as kind
 use Rattle.perm_values.specs.declared.value.Value.{Value}
+use Rattle.perm_values.proofs.Steps.{by}
 use Rattle.bag_algebra.proofs.Truths.{and_true}
 use Rattle.bag_algebra.specs.Bags.{Row, Bag}
 use Rattle.bag_algebra.specs.Expressions.{value}
@@ -32,7 +33,7 @@ use Rattle.contribution.specs.MovedColumns.{PartsMoved}
 use Rattle.rewrite_core.proofs.Itself.{stands-onward}
 use Rattle.simpler_laws.proofs.Gathered.{filter-map, mapped-twice}
 use Rattle.simpler_laws.proofs.Parting.{faultless-moved}
-use Rattle.simpler_laws.proofs.TestedQueries.{by, stands-same, kinds-tested, plain-tested, tables-tested, tables-untested, formed-tested, formed-untested, meaning-tested}
+use Rattle.simpler_laws.proofs.TestedQueries.{stands-same, kinds-tested, plain-tested, tables-tested, tables-untested, formed-tested, formed-untested, meaning-tested}
 use Rattle.simpler_laws.specs.Lowered.{AreColumns, IsLowered}
 use Rattle.simpler_laws.specs.Tested.{hold, tested}
 

@@ -5,6 +5,7 @@ use Rattle.std.proofs.lemmas.Bool.{and_from}
 use Rattle.std.specs.Prelude.{⊤}
 use Rattle.perm_values.specs.declared.kind.Kind.{Kind}
 use Rattle.perm_values.specs.declared.kind.Kind.TheVariants as kind
+use Rattle.perm_values.proofs.Steps.{by}
 use Rattle.bag_algebra.proofs.NeverBad.{good-value}
 use Rattle.bag_algebra.proofs.Truths.{and_true}
 use Rattle.bag_algebra.specs.Bags.{Row, Bag}
@@ -34,7 +35,7 @@ use Rattle.query_laws.proofs.StandingNodes.{stands-Join}
 use Rattle.rewrite_core.proofs.Itself.{stands-onward}
 use Rattle.simpler_laws.proofs.Gathered.{paired_where, filter-paired, paired-decided, join-good, mapped-both, both-same}
 use Rattle.simpler_laws.proofs.Parting.{three-parts, two-halves, passed, faultless-passed, faultless-moved, have-passed, left-hold, right-hold, left-have, right-have}
-use Rattle.simpler_laws.proofs.TestedQueries.{by, stands-same, kinds-tested, plain-tested, tables-tested, tables-untested, formed-tested, formed-untested, meaning-tested, all-faultless}
+use Rattle.simpler_laws.proofs.TestedQueries.{stands-same, kinds-tested, plain-tested, tables-tested, tables-untested, formed-tested, formed-untested, meaning-tested, all-faultless}
 use Rattle.simpler_laws.proofs.Testing.{all_hold-faultless, all_hold-formed, all_hold-met, conjuncts-formed, conjuncts-met, have-append}
 use Rattle.simpler_laws.specs.Conjuncts.{conjuncts}
 use Rattle.simpler_laws.specs.Sides.{is_around, is_left, is_own, is_right, is_right_alone, is_of_both, IsSplit}

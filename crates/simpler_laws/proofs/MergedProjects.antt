@@ -1,6 +1,7 @@
 -- A projection over one to items that can't fault is one.
 use Rattle.std.proofs.Common.{◌≡◌, true, List, [], ◌∷◌, map, refl, sym, ap, ◌∙◌, subst}
 use Rattle.perm_values.specs.declared.kind.Kind.{Kind}
+use Rattle.perm_values.proofs.Steps.{by}
 use Rattle.bag_algebra.proofs.Truths.{and_true}
 use Rattle.bag_algebra.specs.Bags.{Row, Bag}
 use Rattle.bag_algebra.specs.Expressions.{value}
@@ -26,7 +27,7 @@ use Rattle.query_laws.proofs.SameExpressions.{items-themselves}
 use Rattle.query_laws.proofs.StandingNodes.{stands-Project}
 use Rattle.query_laws.specs.Standing.{SubsStand}
 use Rattle.rewrite_core.proofs.Itself.{stands-onward}
-use Rattle.simpler_laws.proofs.TestedQueries.{by, stands-same}
+use Rattle.simpler_laws.proofs.TestedQueries.{stands-same}
 use Rattle.simpler_laws.proofs.SubstitutedVariants.{item-value, rest-calm}
 use Rattle.simpler_laws.specs.merged.Substituted.{row_of_items, ItemsSubstituted, IsMerged}
 

@@ -20,9 +20,9 @@ use Rattle.bag_algebra.specs.declared.query.Query.TheVariants.{Table, Single, Di
 use Rattle.query_laws.proofs.Grouped.{grouped-law}
 use Rattle.query_laws.proofs.StandingNodes.{stands-Distinct}
 use Rattle.rewrite_core.proofs.Itself.{stands-onward}
-use Rattle.simpler_laws.proofs.TestedQueries.{by}
 use Rattle.simpler_laws.specs.merged.Once.{gives_once}
 use Rattle.std.specs.Prelude.{Contains}
+use Rattle.perm_values.proofs.Steps.{by}
 
 -- ---- bags
 

@@ -1,5 +1,5 @@
 -- Each variant of an expression is substituted in where its parts are.
-use Rattle.std.proofs.Common.{◌≡◌, ℕ, zero, suc, ◌≤◌, ◌<◌, Bool, true, ◌&&◌, List, [], ◌∷◌, length, Some, None, refl, sym, ap, ◌∙◌, subst, arith, get_or}
+use Rattle.std.proofs.Common.{◌≡◌, ℕ, zero, suc, ◌≤◌, ◌<◌, Bool, true, ◌&&◌, List, [], ◌∷◌, length, Some, refl, sym, ap, ◌∙◌, subst, arith, get_or}
 use Rattle.std.specs.Prelude.{slice_get}
 use mathlib.Core.Bool.{beq}
 use Rattle.null_logic.specs.Comparison.{is_null}
@@ -14,6 +14,7 @@ use Rattle.perm_values.specs.declared.value.Value.{Value}
 use Rattle.perm_values.specs.declared.value.Value.TheVariants as cell
 use Rattle.bag_algebra.proofs.Forms.{alike-kept, op_form-kept}
 use Rattle.bag_algebra.proofs.NeverBad.{good-value}
+use Rattle.bag_algebra.proofs.Outcomes.{good_value-is}
 use Rattle.bag_algebra.proofs.Truths.{left-true, right-true}
 use Rattle.bag_algebra.specs.Bags.{Row}
 use Rattle.bag_algebra.specs.built.Openings.{row_of_parts, row_of_steps, row_of_arms, shape_of_steps, shape_of_arms, Chain-is, Case-is, IsNull-is, IsTruth-is, Same-is}
@@ -21,7 +22,7 @@ use Rattle.bag_algebra.specs.Expressions.{value, values, step_values, arm_value,
 use Rattle.bag_algebra.specs.FaultFree.{faultless, items_faultless}
 use Rattle.bag_algebra.specs.Kinds.{item_kinds}
 use Rattle.bag_algebra.specs.Means.{good_value}
-use Rattle.bag_algebra.specs.Outcome.{Outcome, Good, Bad, is_good, and_then, mapped, both, both_then}
+use Rattle.bag_algebra.specs.Outcome.{Outcome, Good, and_then, mapped, both, both_then}
 use Rattle.bag_algebra.specs.built.Patterns.{ChainOf, CaseOf, IsNullOf, IsTruthOf, SameOf}
 use Rattle.bag_algebra.specs.WellFormed.{HasKind, PartsHave, StepsHave, ArmsHave, ItemsForm, op_form, is_additive, steps_are, number_of_parts, number_of_steps, number_of_arms}
 use Rattle.bag_algebra.specs.declared.expr.Arm.{Arm}
@@ -32,19 +33,15 @@ use Rattle.bag_algebra.specs.declared.expr.Expr.TheVariants.{Col, Lit, Op, Chain
 use Rattle.bag_algebra.specs.declared.expr.Item.{Item}
 use Rattle.contribution.proofs.QueryKinds.{each-all}
 use Rattle.contribution.proofs.WhereGood.{Each}
-use Rattle.std.proofs.Common.{true≢false}
+use Rattle.perm_values.proofs.Steps.{none_is_some}
 use Rattle.simpler_laws.specs.merged.Substituted.{row_of_items, IsSubstituted, PartsSubstituted, StepsSubstituted, ArmsSubstituted}
 
 -- ---- columns
 
-the_good : (o : Outcome Value) → is_good o ≡ true → o ≡ Good (good_value o)
-the_good (Good v) h = refl
-the_good (Bad faults) h = absurd (true≢false (sym h))
-
 pub item-value : (item : Item) (items : List Item) → items_faultless (item ∷ items) ≡ true → (u : Row) (env : List Row) (subs : List Value) →
     value item.expr u env subs ≡ Good (good_value (value item.expr u env subs))
 item-value item items calm u env subs =
-    the_good (value item.expr u env subs) (good-value item.expr (left-true (faultless item.expr) (items_faultless items) calm) u env subs)
+    good_value-is (value item.expr u env subs) (good-value item.expr (left-true (faultless item.expr) (items_faultless items) calm) u env subs)
 
 pub rest-calm : (item : Item) (items : List Item) → items_faultless (item ∷ items) ≡ true → items_faultless items ≡ true
 rest-calm item items calm = right-true (faultless item.expr) (items_faultless items) calm
@@ -58,9 +55,6 @@ column-value (first ∷ lower) (suc place) item low is calm u env subs = column-
 
 the_one : {A : Type 0} {a b : A} → Some a ≡ Some b → a ≡ b
 the_one e = cc
-
-none_there : {A : Type 0} (k : Kind) → None ≡ Some k → A
-none_there k e = cc
 
 module _ (scopes : List (List Kind)) (subs : List Kind) where
   column-formed : (lower : List Item) (place : ℕ) (item : Item) (kind : Kind) → place < length lower → item ≡ get_or lower place item →
@@ -84,7 +78,7 @@ beyond-value (item ∷ lower) zero u env subs beyond = absurd (omega (arith, bey
 beyond-value (item ∷ lower) (suc place) u env subs beyond = beyond-value lower place u env subs (omega (arith, beyond))
 
 beyond-kind : {A : Type 0} (lower : List Item) (place : ℕ) (kind : Kind) → length lower ≤ place → slice_get (item_kinds lower) place ≡ Some kind → A
-beyond-kind [] place kind beyond e = none_there kind e
+beyond-kind [] place kind beyond e = none_is_some e
 beyond-kind (item ∷ lower) zero kind beyond e = absurd (omega (arith, beyond))
 beyond-kind (item ∷ lower) (suc place) kind beyond e = beyond-kind lower place kind (omega (arith, beyond)) e
 

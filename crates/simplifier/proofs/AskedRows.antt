@@ -11,6 +11,7 @@ use Rattle.perm_values.specs.declared.kind.Kind.{Kind}
 use Rattle.perm_values.specs.declared.value.Value.{Value}
 use Rattle.perm_values.specs.declared.value.Value.TheVariants.{Boolean, Null}
 use Rattle.bag_algebra.proofs.NeverBad.{good-value}
+use Rattle.bag_algebra.proofs.Outcomes.{good-is}
 use Rattle.bag_algebra.proofs.TruthValues.{holds-boolean, holds-truth, holds-both}
 use Rattle.bag_algebra.proofs.Truths.{left-true, right-true}
 use Rattle.bag_algebra.specs.Bags.{Row, Bag}
@@ -19,7 +20,7 @@ use Rattle.bag_algebra.specs.FaultFree.{faultless, items_faultless}
 use Rattle.bag_algebra.specs.Fits.{row_begins}
 use Rattle.bag_algebra.specs.Meaning.{items_on, optional_value}
 use Rattle.bag_algebra.specs.Means.{cell, comparisons, holds_of, is_met, is_some_row, no_subs, some_of, sub_value}
-use Rattle.bag_algebra.specs.Outcome.{Outcome, Good, Bad, and_then, mapped, both, both_then, gather, is_good}
+use Rattle.bag_algebra.specs.Outcome.{Outcome, Good, Bad, and_then, mapped, both, both_then, gather}
 use Rattle.bag_algebra.specs.WellFormed.{sub_form}
 use Rattle.bag_algebra.specs.built.FaultFree.{all_parts_faultless, faultless-IsTruth, faultless-Op}
 use Rattle.bag_algebra.specs.built.Openings.{value-IsTruth, value-Op}
@@ -43,10 +44,6 @@ only (y ∷ []) x h k e = ap (λ z. z ∷ []) (sym e)
 only (y ∷ z ∷ xs) x h k e = absurd (omega (arith, k))
 
 -- ---- truths
-
-pub good-is : {X : Type 0} (o : Outcome X) → is_good o ≡ true → (v : X) × (o ≡ Good v)
-good-is (Good v) e = (v, refl)
-good-is (Bad faults) e = absurd (cc e)
 
 some-is : (ts : List Truth) → is_true (some_of ts) ≡ list_any is_true ts
 some-is ts = by_some (list_any is_true ts) where

@@ -4,6 +4,7 @@ use Rattle.std.proofs.lemmas.Option.{same_Some}
 use Rattle.std.specs.Prelude.{All}
 use Rattle.std.specs.FinMap.{FinMap}
 use Rattle.std.specs.Ordering.{nat_cmp}
+use Rattle.perm_values.proofs.Steps.{none_is_some}
 use Rattle.bag_algebra.specs.Bags.{Bag}
 use Rattle.perm_catalog.proofs.Named.{named-changed, named-last, named-without}
 use Rattle.perm_catalog.specs.Changes.{is_free, renewed, table_named, view_named, with_rows_of, with_table, with_view, without_table, without_view}
@@ -16,7 +17,7 @@ use Rattle.perm_catalog.specs.declared.entries.Mark.{Mark}
 use Rattle.perm_catalog.specs.declared.entries.TableEntry.{TableEntry}
 use Rattle.name_meaning.specs.declared.answer.Resolved.{Resolved}
 use Rattle.name_meaning.specs.declared.answer.Resolved.TheVariants as r
-use Rattle.stored_provenance.proofs.Soundness.{are-apart, free-table, none_is_some}
+use Rattle.stored_provenance.proofs.Soundness.{are-apart, free-table}
 use Rattle.statement_meaning.specs.Asking.{asks}
 use Rattle.statement_meaning.specs.Ready.{IsReady}
 use Rattle.statement_meaning.specs.Turns.{identity_of}

@@ -10,6 +10,7 @@ use Rattle.std.specs.List.{IsDistinct}
 use Rattle.std.specs.Option.{option_map_or, unwrap_or}
 use Rattle.std.specs.Ordering.{nat_cmp}
 use Rattle.perm_values.specs.Marked.{unmarked}
+use Rattle.perm_values.proofs.Steps.{none_is_some}
 use Rattle.bag_algebra.specs.Bags.{Bag}
 use Rattle.bag_algebra.specs.Fits.{bag_fits}
 use Rattle.bag_algebra.specs.TableRows.{rows_in}
@@ -26,7 +27,7 @@ use Rattle.perm_catalog.specs.declared.entries.ViewEntry.{ViewEntry}
 use Rattle.stored_provenance.proofs.HeldRows.{get-put, get-put_apart, get-removed_apart, fits-append, fits-unmarked}
 use Rattle.perm_catalog.proofs.Named.{AtName, Elsewhere, found, found-apart, found-here, same-or-not, named-changed, named-last, named-without, keys-changed, distinct-last, distinct-without}
 use Rattle.stored_provenance.proofs.Marks.{AreApart, IsHere, Was, Goes, stored-goes}
-use Rattle.stored_provenance.proofs.Soundness.{none_is_some, are-apart, kept-table, kept-view, Kept, stays, free-table, free-view, unused}
+use Rattle.stored_provenance.proofs.Soundness.{are-apart, kept-table, kept-view, Kept, stays, free-table, free-view, unused}
 
 -- ---- a new table
 

@@ -3,6 +3,7 @@ use Rattle.std.proofs.Common.{◌≡◌, ◌⊎◌, inl, inr, ℕ, Bool, cond, t
 use Rattle.std.proofs.lemmas.Option.{same_Some}
 use Rattle.std.specs.FinMap as map
 use Rattle.std.specs.Cmp.Lexicographic.{pointwise}
+use Rattle.perm_values.proofs.Steps.{none_is_some}
 use Rattle.perm_catalog.specs.Changes.{table_named, view_named, is_free, with_view, without_view}
 use Rattle.perm_catalog.specs.Contents.{Contents}
 use Rattle.perm_catalog.specs.Sound.{IsSound, IsSoundTable, IsSoundView}
@@ -11,7 +12,7 @@ use Rattle.perm_catalog.specs.declared.entries.ViewEntry.{ViewEntry}
 use Rattle.perm_catalog.proofs.Named.{AtName, Elsewhere, found, found-apart, named-last, named-without, distinct-last, distinct-without}
 use Rattle.bag_algebra.specs.TableRows.{rows_in}
 use Rattle.stored_provenance.proofs.Marks.{AreApart, Goes}
-use Rattle.stored_provenance.proofs.Soundness.{none_is_some, are-apart, kept-table, kept-view, stays, free-table, free-view}
+use Rattle.stored_provenance.proofs.Soundness.{are-apart, kept-table, kept-view, stays, free-table, free-view}
 
 -- a table and a view of a catalog whose views alone change
 same-goes : (c d : Contents) → d.next ≡ c.next → d.rows ≡ c.rows → ((q : List ℕ) → table_named d q ≡ table_named c q) → Goes c d

@@ -7,6 +7,7 @@ use Rattle.std.specs.FinMap as map
 use Rattle.std.specs.List.{find, IsDistinct}
 use Rattle.std.specs.Map.{lookup}
 use Rattle.std.specs.Option.{option_map}
+use Rattle.perm_values.proofs.Steps.{none_is_some}
 use Rattle.perm_catalog.specs.Changes.{table_named, view_named, nothing_held}
 use Rattle.perm_catalog.specs.Columns.{column_kinds}
 use Rattle.perm_catalog.specs.Contents.{Contents}
@@ -16,9 +17,6 @@ use Rattle.perm_catalog.specs.Sound.{IsSound, IsSoundTable, IsSoundView, IsHeldR
 use Rattle.perm_catalog.specs.declared.entries.TableEntry.{TableEntry}
 use Rattle.perm_catalog.specs.declared.entries.ViewEntry.{ViewEntry}
 use Rattle.stored_provenance.proofs.Marks.{AreApart, Goes, stored-goes}
-
-pub none_is_some : {X : Type 0} {P : Type 0} {x : X} → None ≡ Some x → P
-none_is_some e = cc
 
 -- ---- what stays sound where little changes
 

@@ -3,6 +3,7 @@ use Rattle.std.proofs.Common.{◌≡◌, ◌↔◌, ℕ, true, List, [], ◌∷�
 use Rattle.perm_values.specs.declared.kind.Kind.{Kind}
 use Rattle.perm_values.specs.declared.kind.Kind.TheVariants.{Boolean}
 use Rattle.perm_values.specs.declared.value.Value.{Value}
+use Rattle.perm_values.proofs.Steps.{by}
 use Rattle.bag_algebra.proofs.Members.{IsIn}
 use Rattle.bag_algebra.proofs.TablesRead.{reads_among-itself, reads_among-onward}
 use Rattle.bag_algebra.specs.Bags.{Row, Bag}
@@ -34,7 +35,6 @@ use Rattle.query_laws.specs.SublinkLists.{EachContributes, InAnswer, no_sublink}
 use Rattle.rewrite_core.specs.rewritings.Rewritten.{Rewritten}
 use Rattle.rewrite_core.proofs.RuleRows.{beside-from_rewrite, rows-from_beside}
 use Rattle.rewrite_core.proofs.Unlinked.{none-contribute}
-use Rattle.rewrite_sublink.proofs.LongerRows.{by}
 
 -- ---- what is gathered, part by part
 

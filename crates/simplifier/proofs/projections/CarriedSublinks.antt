@@ -7,6 +7,7 @@ use Rattle.perm_values.specs.Rows.{picked, value_at, PlacesWithin}
 use Rattle.perm_values.specs.declared.kind.Kind.{Kind}
 use Rattle.perm_values.specs.declared.kind.Kind.TheVariants.{Text}
 use Rattle.perm_values.specs.declared.value.Value.TheVariants.{Null}
+use Rattle.perm_values.proofs.Steps.{by}
 use Rattle.bag_algebra.proofs.Truths.{left-true, right-true}
 use Rattle.bag_algebra.specs.Bags.{Row}
 use Rattle.bag_algebra.specs.Children.{sublink_value, subs_denote}
@@ -26,7 +27,6 @@ use Rattle.bag_algebra.specs.declared.query.SubKind.TheVariants as sub
 use Rattle.bag_algebra.specs.declared.query.Sublink.{Sublink}
 use Rattle.query_facts.proofs.Alike.{Alike, denote-alike}
 use Rattle.query_facts.specs.reach.Reach.{reach_of}
-use Rattle.simpler_laws.proofs.TestedQueries.{by}
 use Rattle.simplifier.proofs.projections.AlikeForms.{AlikeKinds, formed-alike}
 use Rattle.simplifier.specs.projections.Carried.{AllCarried, IsCarried, Leads, TestedMoved, all_reach}
 

@@ -5,6 +5,7 @@ use Rattle.perm_values.specs.Rows.{picked, PlacesWithin}
 use Rattle.perm_values.specs.declared.kind.Kind.{Kind}
 use Rattle.perm_values.specs.declared.kind.Kind.TheVariants.{Text}
 use Rattle.perm_values.specs.declared.value.Value.TheVariants.{Null}
+use Rattle.perm_values.proofs.Steps.{by}
 use Rattle.bag_algebra.proofs.Truths.{and_true}
 use Rattle.bag_algebra.specs.Bags.{Row, Bag}
 use Rattle.bag_algebra.specs.Fits.{TablesFit, env_fits}
@@ -25,7 +26,6 @@ use Rattle.contribution.proofs.RowKinds.{RowFits, row_fits-length}
 use Rattle.contribution.proofs.WhereGood.{Each, WhereGood}
 use Rattle.rewrite_core.proofs.Places.{at-between, within-range}
 use Rattle.simpler_laws.proofs.ColumnItems.{columns-kinds, columns-within, meaning-columns}
-use Rattle.simpler_laws.proofs.TestedQueries.{by}
 use Rattle.simpler_laws.specs.Lowered.{AreColumns}
 use Rattle.simplifier.specs.projections.Sides.{IsSide, of_input, of_itself}
 use Rattle.simplifier.specs.declared.projections.sides.Side.{Side}

@@ -4,6 +4,7 @@ use Rattle.std.proofs.lemmas.Bool.{and_from}
 use Rattle.perm_values.specs.Rows.{picked, PlacesWithin}
 use Rattle.perm_values.specs.declared.kind.Kind.{Kind}
 use Rattle.perm_values.specs.declared.kind.Kind.TheVariants as kind
+use Rattle.perm_values.proofs.Steps.{by}
 use Rattle.bag_algebra.proofs.Truths.{and_true, left-true, right-true}
 use Rattle.bag_algebra.specs.Bags.{Row}
 use Rattle.bag_algebra.specs.Children.{subs_denote}
@@ -25,7 +26,7 @@ use Rattle.bag_algebra.specs.declared.query.Sublink.{Sublink}
 use Rattle.contribution.proofs.ColumnQueries.{formed-columns, kinds_of-columns, meaning-columns}
 use Rattle.contribution.specs.MovedColumns.{IsMoved}
 use Rattle.rewrite_core.proofs.Itself.{stands-onward}
-use Rattle.simpler_laws.proofs.TestedQueries.{by, stands-equal}
+use Rattle.simpler_laws.proofs.TestedQueries.{stands-equal}
 use Rattle.simplifier.proofs.projections.CarriedSublinks.{carried-answers, carried-form, carried-kinds, carried-plain, carried-tables}
 use Rattle.simplifier.proofs.projections.MadeRows.{filter-made}
 use Rattle.simplifier.proofs.projections.Picks.{Picks}

@@ -6,6 +6,7 @@ use Rattle.perm_values.specs.Rows.{picked, value_at, PlacesWithin}
 use Rattle.perm_values.specs.declared.kind.Kind.{Kind}
 use Rattle.perm_values.specs.declared.kind.Kind.TheVariants.{Boolean, Text}
 use Rattle.perm_values.specs.declared.value.Value.TheVariants.{Null}
+use Rattle.perm_values.proofs.Steps.{by}
 use Rattle.bag_algebra.proofs.Truths.{and_true, both-true, left-true, right-true}
 use Rattle.bag_algebra.specs.Bags.{Row, nulls}
 use Rattle.bag_algebra.specs.ColumnItems.{column_items}
@@ -30,7 +31,7 @@ use Rattle.contribution.proofs.RowKinds.{RowFits, nulls-fit, row_fits-length}
 use Rattle.contribution.specs.MovedColumns.{IsMoved}
 use Rattle.rewrite_core.proofs.Itself.{stands-onward}
 use Rattle.rewrite_core.proofs.Places.{at-moved, at-within}
-use Rattle.simpler_laws.proofs.TestedQueries.{by, stands-equal}
+use Rattle.simpler_laws.proofs.TestedQueries.{stands-equal}
 use Rattle.simplifier.proofs.projections.MadeRows.{join-made}
 use Rattle.simplifier.proofs.projections.Picks.{Picks}
 use Rattle.simplifier.specs.projections.Plans.{pair_places}
