@@ -1,5 +1,5 @@
 -- What made outcomes are made of, and the faults of a union.
-use Rattle.std.proofs.Common.{◌≡◌, suc, true, List, [], ◌∷◌, length, refl, sym, ap, ◌∙◌, true≢false}
+use Rattle.std.proofs.Common.{◌≡◌, suc, true, List, [], ◌∷◌, ◌++◌, length, append-nil, refl, sym, ap, ◌∙◌, true≢false}
 use Rattle.std.proofs.lemmas.Bool.{or_left, or_right}
 use Rattle.null_logic.specs.declared.run_fault.RunFault.{RunFault}
 use Rattle.null_logic.specs.declared.run_fault.RunFault.TheVariants.{DivideByZero, OutOfRange, SeveralRows}
@@ -64,6 +64,10 @@ each-long f (x ∷ xs) ys e =
 pub same_rows-itself : (o : Outcome Bag) → SameRows o o
 same_rows-itself (Good us) = same_bag-refl us
 same_rows-itself (Bad faults) = refl
+
+pub nothing-behind : (o : Outcome Bag) → o ≡ mapped (λ rows. rows ++ [] ++ []) o
+nothing-behind (Good us) = ap Good (sym (append-nil (us ++ []) ∙ append-nil us))
+nothing-behind (Bad faults) = refl
 
 -- the values of a node's sublinks are evaluated one by one
 pub answers-each : (subs : List Sublink) (db : Database) (env : List Row) (u : Row) → (subs_denote subs db env).answers u ≡ each (sublink_value db env u) subs

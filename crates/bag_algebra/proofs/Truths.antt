@@ -44,6 +44,11 @@ pub not_not : (b : Bool) → not (not b) ≡ b
 not_not true = refl
 not_not false = refl
 
+pub and_turn : (a b c : Bool) → (a && (b && c)) ≡ (b && (a && c))
+and_turn true b c = refl
+and_turn false true c = refl
+and_turn false false c = refl
+
 pub or_turn : (a b c : Bool) → (a || (b || c)) ≡ (b || (a || c))
 or_turn true true c = refl
 or_turn true false c = refl

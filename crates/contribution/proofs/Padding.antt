@@ -1,10 +1,9 @@
 -- NULLs as items, and NULLs beside the columns of a query.
-use Rattle.std.proofs.Common.{◌≡◌, ℕ, List, [], ◌∷◌, ◌++◌, true, map, length, refl, sym, ap, ◌∙◌, arith, append_assoc}
+use Rattle.std.proofs.Common.{◌≡◌, ℕ, List, [], ◌∷◌, ◌++◌, map, length, refl, sym, ap, ◌∙◌, arith, append_assoc}
 use Rattle.perm_values.specs.Rows.{picked, value_at, PlacesWithin}
-use Rattle.perm_values.specs.Values.{fits}
 use Rattle.perm_values.specs.declared.kind.Kind.{Kind}
-use Rattle.perm_values.specs.declared.kind.Kind.TheVariants.{Integer, Text, Boolean}
 use Rattle.perm_values.specs.declared.value.Value.TheVariants.{Null}
+use Rattle.perm_values.proofs.Fits.{null-fits}
 use Rattle.bag_algebra.proofs.Columns.{column_items-give, each-good}
 use Rattle.bag_algebra.specs.Bags.{Row, Bag, nulls}
 use Rattle.bag_algebra.specs.ColumnItems.{column_items}
@@ -30,16 +29,11 @@ pub null_items-give : (kinds : List Kind) (env : List Row) (u : Row) → items_o
 null_items-give [] env u = refl
 null_items-give (kind ∷ kinds) env u = ap (both (λ v vs. v ∷ vs) (Good Null)) (null_items-give kinds env u)
 
-null_fits : (kind : Kind) → fits Null kind ≡ true
-null_fits Integer = refl
-null_fits Text = refl
-null_fits Boolean = refl
-
 pub null_items-formed : (kinds : List Kind) (scopes : List (List Kind)) → ItemsForm scopes [] (map null_item kinds)
 null_items-formed [] scopes = all-nothing _
 null_items-formed (kind ∷ kinds) scopes =
     all-first (λ (item : Item). HasKind scopes [] item.expr item.kind) (null_item kind) (map null_item kinds)
-    (record { fitting = null_fits kind; gives = refl }) (null_items-formed kinds scopes)
+    (record { fitting = null-fits kind; gives = refl }) (null_items-formed kinds scopes)
 
 -- ---- items before others
 

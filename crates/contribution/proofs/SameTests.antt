@@ -155,10 +155,10 @@ tests-faultless level [] own = refl
 tests-faultless level (t ∷ theirs) [] = refl
 tests-faultless level (t ∷ theirs) (o ∷ own) = λ i. faultless-Same (Col level t) (Col 0 o) i && tests-faultless level theirs own i
 
-conjunction-of-faultless : (tests : List Expr) → all_parts_faultless tests ≡ true → faultless (all_hold tests) ≡ true
-conjunction-of-faultless [] h = refl
-conjunction-of-faultless (test ∷ []) h = sym (and_true (faultless test)) ∙ h
-conjunction-of-faultless (test ∷ other ∷ tests) h = faultless-Op And (test ∷ other ∷ tests) ∙ h
+pub all_hold-faultless : (tests : List Expr) → all_parts_faultless tests ≡ true → faultless (all_hold tests) ≡ true
+all_hold-faultless [] h = refl
+all_hold-faultless (test ∷ []) h = sym (and_true (faultless test)) ∙ h
+all_hold-faultless (test ∷ other ∷ tests) h = faultless-Op And (test ∷ other ∷ tests) ∙ h
 
 pub conjunction-faultless : (level : ℕ) (theirs own : List ℕ) → faultless (all_hold (same_tests level theirs own)) ≡ true
-conjunction-faultless level theirs own = conjunction-of-faultless (same_tests level theirs own) (tests-faultless level theirs own)
+conjunction-faultless level theirs own = all_hold-faultless (same_tests level theirs own) (tests-faultless level theirs own)

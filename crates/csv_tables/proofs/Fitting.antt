@@ -8,6 +8,7 @@ use Rattle.perm_values.specs.Values.{fits}
 use Rattle.perm_values.specs.declared.kind.Kind.{Kind}
 use Rattle.perm_values.specs.declared.kind.Kind.TheVariants as kind
 use Rattle.perm_values.specs.declared.value.Value.TheVariants.{Null}
+use Rattle.perm_values.proofs.Fits.{null-fits}
 use Rattle.perm_values.proofs.Lists.{front-none, back-none}
 use Rattle.csv_tables.specs.Loading.{broken_rules, field_value, record_breaks, records_breaks, row_records, row_values, skipped, spelled, spelled_rows, width_breaks}
 
@@ -15,11 +16,6 @@ spelled-fits : (k : Kind) (field : List ℕ) → fits (spelled k field) k ≡ tr
 spelled-fits kind.Integer field = refl
 spelled-fits kind.Text field = refl
 spelled-fits kind.Boolean field = refl
-
-null-fits : (k : Kind) → fits Null k ≡ true
-null-fits kind.Integer = refl
-null-fits kind.Text = refl
-null-fits kind.Boolean = refl
 
 field_value-fits : (null_field : List ℕ) (k : Kind) (field : List ℕ) → fits (field_value null_field k field) k ≡ true
 field_value-fits null_field k field = choose (bytes_eq field null_field) where

@@ -1,5 +1,6 @@
 -- What stands over literals alone has one value, and one kind.
 use Rattle.std.proofs.Common.{◌≡◌, ◌≤◌, Bool, true, false, cond, ◌&&◌, List, [], ◌∷◌, Some, None, refl, sym, ap, ◌∙◌, subst, true≢false, arith}
+use Rattle.std.proofs.lemmas.Option.{same_Some}
 use Rattle.null_logic.specs.Comparison.{is_null}
 use Rattle.null_logic.specs.declared.operator.Operator.{Operator}
 use Rattle.null_logic.specs.declared.operator.Operator.TheVariants as op
@@ -23,12 +24,9 @@ use Rattle.contribution.proofs.WhereGood.{WhereGood}
 use Rattle.query_laws.specs.SameExpressions.{SameExpr}
 use Rattle.folded_literals.specs.Constants.{is_literal, literal_kind, kind_given, parts_literal, steps_literal, arms_literal, kind_of_first, constant_kind}
 
-the_one : (given k : Kind) → Some given ≡ Some k → given ≡ k
-the_one given k e = cc
-
 -- a kind that is there where a test holds
 where_holds : (b : Bool) (given k : Kind) → cond b (Some given) None ≡ Some k → (b ≡ true) × (given ≡ k)
-where_holds true given k e = (refl, the_one given k e)
+where_holds true given k e = (refl, same_Some given k e)
 where_holds false given k e = none_is_some e
 
 -- ---- literals

@@ -36,6 +36,7 @@ use Rattle.contribution.proofs.NodeQueries.{plain-projected}
 use Rattle.contribution.specs.Fitting.{Fitting}
 use Rattle.query_laws.proofs.AnswerRows.{answer-in, answer-from}
 use Rattle.query_laws.proofs.ApplyLists.{apply-lists}
+use Rattle.query_laws.proofs.Joined.{length-nulls}
 use Rattle.query_laws.proofs.Outcomes.{over-gather, good-mapped, good-good}
 use Rattle.query_laws.specs.ListsOfNodes.{ApplyList, of_right_row, of_no_right_row}
 use Rattle.query_laws.specs.SublinkLists.{InAnswer}
@@ -44,7 +45,7 @@ use Rattle.rewrite_core.proofs.Faults.{SameFaults, gather-bad_alike, mapped-same
 use Rattle.rewrite_core.proofs.FlatRows.{Flattened, flattened, row-begins, stands_beside}
 use Rattle.rewrite_core.proofs.JoinedOutcomes.{Related, rewritten-from_related}
 use Rattle.rewrite_core.proofs.KeptRewriting.{rewriting-related}
-use Rattle.rewrite_core.proofs.KeptRows.{row-width, list-width, length-nulls, nulls-of_rewriting, flat-append}
+use Rattle.rewrite_core.proofs.KeptRows.{row-width, list-width, nulls-of_rewriting, flat-append}
 use Rattle.rewrite_core.specs.rewritings.Rewritten.{Beside}
 use Rattle.rewrite_sublink.proofs.LongerRows.{names-rewriting}
 use Rattle.rewrite_sublink.proofs.NodeRows.{Reaching, reaching-over}

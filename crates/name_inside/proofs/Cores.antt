@@ -2,7 +2,7 @@
 use Rattle.std.specs.Prelude.{◌≡◌, ℕ, ℤ, Bool, true, false, cond, List, [], ◌∷◌, ◌++◌, map, flat_map, Option, Some, None, option_map, suc, length, ◌+◌, ◌<◌}
 use Rattle.std.proofs.Common.{refl, ap, sym, subst, ◌∙◌, true≢false, arith, take, get_or}
 use Rattle.std.specs.Option.{option_map_or}
-use Rattle.perm_values.proofs.Lists.{front-none, back-none}
+use Rattle.perm_values.proofs.Lists.{front-none, back-none, map-taken}
 use Rattle.bag_algebra.specs.declared.query.Query.{Query}
 use Rattle.perm_catalog.specs.Contents.{Contents}
 use Rattle.sql_tree.specs.declared.name.ColRef.{ColRef}
@@ -47,7 +47,6 @@ use Rattle.name_seen_parts.proofs.Scoping.{more-behind, scope-beside-is}
 use Rattle.name_seen_parts.specs.Scopes.{item_scope, scope_beside}
 use Rattle.name_seen_parts.specs.Standing.{around_beside}
 use Rattle.perm_catalog.specs.declared.column.Column.{Column}
-use Rattle.name_made_parts.proofs.AskedListing.{mapped}
 
 -- ---- set operations
 
@@ -272,7 +271,7 @@ module _ (c : Contents) (outer : List Scope) (left : FromMeant) (joins : List Jo
       → AddsJoin outer (join_of c step) own wider middle new → FromAdded (join_all outer left (map (join_of c) (take (i + 1) joins))) old new wider
   step-added within is so_far adds =
       subst (λ (m : FromMeant). FromAdded m old new wider)
-      (sym (ap (join_all outer left) (mapped (join_of c) joins i step within is) ∙ joins-append outer left (map (join_of c) (take i joins)) (join_of c step)))
+      (sym (ap (join_all outer left) (map-taken (join_of c) joins i step within is) ∙ joins-append outer left (map (join_of c) (take i joins)) (join_of c step)))
       (adds (join_all outer left (map (join_of c) (take i joins))) old so_far)
 
 -- ---- parts before and behind commas

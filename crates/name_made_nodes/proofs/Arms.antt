@@ -1,5 +1,5 @@
 -- What an expression of one form is made of, its parts made where they stand.
-use Rattle.std.specs.Prelude.{◌≡◌, ℕ, ◌+◌, Bool, false, List, [], ◌∷◌, ◌++◌, map, flat_map, length, Ok, Err, IfOk, Result}
+use Rattle.std.specs.Prelude.{◌≡◌, ℕ, ◌+◌, Bool, false, List, [], ◌∷◌, ◌++◌, map, flat_map, length}
 use Rattle.std.proofs.Common.{refl, ap, sym, subst, ◌∙◌, arith, append_assoc, length-append}
 use Rattle.std.proofs.lemmas.Grind.{flat_map-append}
 use Rattle.std.proofs.lemmas.List.{map-append}
@@ -28,12 +28,6 @@ use Rattle.name_meaning.specs.declared.need.Need.TheVariants.{OfKind, Alike}
 use Rattle.name_made_nodes.specs.Makes.{before_of, with_found, arm_exprs, Makes, MakesMore, MakesSteps, MakesArms}
 use Rattle.name_made_nodes.specs.declared.within.Within.{Within}
 use Rattle.name_made_nodes.proofs.Parts.{with-nothing, none-more, one-more, more-more, node-made}
-
--- ---- results
-
-pub of-ok : {X E : Type 0} (P Q : X → Type 0) (result : Result X E) → ((x : X) → P x → Q x) → IfOk result P → IfOk result Q
-of-ok P Q (Ok x) f p = f x p
-of-ok P Q (Err e) f p = tt
 
 -- ---- what needs no part
 

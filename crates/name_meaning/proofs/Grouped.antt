@@ -13,13 +13,14 @@ use Rattle.bag_algebra.specs.Kinds.{kind_in, kinds_in, aggregate_kinds}
 use Rattle.bag_algebra.specs.WellFormed.{column_kind}
 use Rattle.bag_algebra.specs.declared.query.Aggr.{Aggr}
 use Rattle.sql_tree.specs.declared.name.ColRef.{ColRef}
+use Rattle.contribution.proofs.LongerKinds.{slice_get-longer}
 use Rattle.name_meaning.specs.Cores.{group_found, group_place}
 use Rattle.name_meaning.specs.declared.scope.Found.{Found}
 use Rattle.name_meaning.specs.declared.scope.Found.TheVariants.{Absent as absent, Ambiguous as ambiguous, Column as found}
 use Rattle.name_meaning.specs.declared.scope.Scope.{Scope}
 use Rattle.name_meaning.specs.laws.Standing.{StandAt, HoldsScope, AggregatesStand}
 use Rattle.name_meaning.proofs.FoundColumns.{look_up-kind}
-use Rattle.name_meaning.proofs.Standing.{stand-behind, slice_get-front}
+use Rattle.name_meaning.proofs.Standing.{stand-behind}
 
 -- ---- GROUP BY columns are columns of the core
 
@@ -60,7 +61,7 @@ group-kind row groups place at kind e is =
 pub grouped-holds : (own : Scope) (row more : List Kind) (groups : List ℕ) → HoldsScope (record own { groups = None }) row
     → HoldsScope (record own { groups = Some groups }) (kinds_in row groups ++ more)
 grouped-holds own row more groups hold place at column is there =
-    slice_get-front (kinds_in row groups) more at column.kind (group-kind row groups place at column.kind (hold place place column is refl) there)
+    slice_get-longer (kinds_in row groups) more at column.kind (group-kind row groups place at column.kind (hold place place column is refl) there)
 
 pub grouped-stand : (own : Scope) (outer : List Scope) (row : List Kind) (rows : List (List Kind)) (groups : List ℕ) (aggregates : List Aggr)
     → AggregatesStand (record own { groups = Some groups } ∷ outer) 0 aggregates ((kinds_in row groups ++ aggregate_kinds aggregates) ∷ rows)

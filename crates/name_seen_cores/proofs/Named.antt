@@ -5,13 +5,13 @@ use Rattle.std.proofs.Math.ListN.{drop_of_length-le}
 use Rattle.std.proofs.lemmas.Bool.{cases_lt}
 use Rattle.std.proofs.lemmas.List.{map-append}
 use Rattle.perm_values.specs.declared.kind.Kind.{Kind}
+use Rattle.perm_values.proofs.Lists.{dropped}
 use Rattle.name_meaning.specs.Froms.{named_columns}
 use Rattle.name_meaning.specs.Meanings.{OutColumn}
 use Rattle.name_meaning.specs.Queries.{out_column}
 use Rattle.name_meaning.specs.Scopes.{KnownColumn}
 use Rattle.name_seen_parts.specs.Columns.{column_of, columns_of}
 use Rattle.name_seen_parts.specs.declared.clauses.column.ShownColumn.{ShownColumn}
-use Rattle.name_seen_parts.proofs.Firsts.{dropped}
 
 abbrev pub named_from_place : ℕ → List (List ℕ) → List Kind → List OutColumn
 named_from_place at names kinds = map out_column (named_columns (drop at names) (drop at kinds))

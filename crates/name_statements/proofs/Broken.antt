@@ -27,11 +27,11 @@ use Rattle.name_seen_parts.specs.declared.refusal.Refusal.{Refusal}
 use Rattle.name_seen_parts.specs.declared.refusal.Refusal.TheVariants.{Break as Broken, NoMemory}
 use Rattle.name_seen_parts.specs.Told.{Tells}
 use Rattle.std.proofs.Math.ListN.{drop_of_length-le}
-use Rattle.perm_values.proofs.Lists.{taken}
+use Rattle.perm_values.proofs.Lists.{taken, dropped}
 use Rattle.bag_algebra.proofs.Truths.{left-false, right-false}
 use Rattle.name_seen_parts.specs.Columns.{columns_of}
 use Rattle.name_seen_parts.specs.declared.clauses.column.ShownColumn.{ShownColumn}
-use Rattle.name_seen_parts.proofs.Firsts.{dropped, first-stays, flat-first}
+use Rattle.name_seen_parts.proofs.Firsts.{first-stays, flat-first}
 use Rattle.name_meaning.specs.sets.Named.{is_named}
 use Rattle.name_statements.specs.Earlier.{column_break, is_defined, is_shown, texts_of}
 use Rattle.name_meaning.specs.declared.rule.Rule.TheVariants as rule

@@ -11,7 +11,7 @@ pub ok-anyway : {X E P : Type 0} (result : Result X E) → P → OnOk result P
 ok-anyway (Ok x) holds = holds
 ok-anyway (Err e) holds = tt
 
-pub where_made : {X : Type 0} (P R : X → Type 0) (result : Result X NoMemory) → ((x : X) → P x → R x) → IfOk result P → IfOk result R
+pub where_made : {X E : Type 0} (P R : X → Type 0) (result : Result X E) → ((x : X) → P x → R x) → IfOk result P → IfOk result R
 where_made P R (Ok x) f p = f x p
 where_made P R (Err error) f p = tt
 

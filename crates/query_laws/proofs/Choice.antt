@@ -22,7 +22,7 @@ use Rattle.query_laws.proofs.Outcomes.{in_bag-in, in-in_bag}
 
 -- ---- one answer
 
-same_flag : (a b : Bool) → (a ≡ true → b ≡ true) → (b ≡ true → a ≡ true) → a ≡ b
+pub same_flag : (a b : Bool) → (a ≡ true → b ≡ true) → (b ≡ true → a ≡ true) → a ≡ b
 same_flag = both_ways
 
 same_faults : (f g : Faults) → ((fault : RunFault) → has f fault ≡ true → has g fault ≡ true) → ((fault : RunFault) → has g fault ≡ true → has f fault ≡ true) → f ≡ g

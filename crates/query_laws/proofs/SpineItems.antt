@@ -108,7 +108,7 @@ items_faultless-append (item ∷ items) more w z =
 
 -- ---- NULLs behind a row
 
-nulls-null : (n place : ℕ) → value_at (nulls n) place ≡ Null
+pub nulls-null : (n place : ℕ) → value_at (nulls n) place ≡ Null
 nulls-null zero place = refl
 nulls-null (suc n) zero = refl
 nulls-null (suc n) (suc place) = nulls-null n place

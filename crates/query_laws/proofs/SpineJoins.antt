@@ -39,6 +39,7 @@ use Rattle.contribution.proofs.SetsOfRows.{mapped-gather}
 use Rattle.contribution.proofs.ValueKinds.{fits-begins}
 use Rattle.contribution.proofs.WhereGood.{each-in}
 use Rattle.contribution.specs.Fitting.{Fitting}
+use Rattle.query_laws.proofs.Grouped.{map-map}
 use Rattle.query_laws.proofs.Inputs.{across}
 use Rattle.query_laws.proofs.StandingSublinks.{gather-on}
 use Rattle.query_laws.proofs.SpineForms.{spine-faultless, spine-fault_free, spine-kinds, spine-tables, base-formed}
@@ -193,10 +194,6 @@ good_rows-is : (o : Outcome Bag) → is_good o ≡ true → o ≡ Good (good_row
 good_rows-is (Good bag) w = refl
 good_rows-is (Bad faults) w = absurd (cc w)
 
-map-twice : {X Y Z : Type 0} (f : Y → Z) (g : X → Y) (xs : List X) → map f (map g xs) ≡ map (λ x. f (g x)) xs
-map-twice f g [] = refl
-map-twice f g (x ∷ xs) = ap (λ ys. f (g x) ∷ ys) (map-twice f g xs)
-
 abbrev no_rows : Bag
 no_rows = []
 
@@ -334,7 +331,7 @@ module _ (kind : JoinKind) (left right : Query) (spine : Spine) (outer : List (L
         map make (alone condition 0 (width_of spine.base) us vs k) ≡ flat_map (λ u. kept_alone k (width_of right) u (good_rows (found u))) us
     others-made Inner s rows e d = nothing-each (λ u. is_some_row (good_rows (found u))) us
     others-made Left s rows e d =
-        map-twice make (λ u. u ++ nulls (width_of spine.base)) (unmatched_left condition us vs)
+        map-map make (λ u. u ++ nulls (width_of spine.base)) (unmatched_left condition us vs)
         ∙ alone-rows (λ u. make (u ++ nulls (width_of spine.base))) (λ u. u ++ nulls (width_of right)) (λ u. list_any (λ v. is_met (condition (u ++ v))) vs)
         (λ u. is_some_row (good_rows (found u))) us
         (λ u h. let each_found = good-of (λ u. map (λ w. u ++ w)) found us rows e u h in

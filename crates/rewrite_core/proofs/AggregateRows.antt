@@ -33,10 +33,11 @@ use Rattle.contribution.specs.Fitting.{Fitting}
 use Rattle.rewrite_core.proofs.JoinedOutcomes.{Related, Combines, Joins, related-onward, joined-related, unlisted, no_entries, unlisted_list, unlisted-related, answer-listed, listed-row}
 use Rattle.rewrite_core.proofs.JoinedRows.{Spread, beside_list, spread-from_beside, beside-from_spread, JoinedList, of_met, of_alone, joined_good, joined-spread}
 use Rattle.rewrite_core.proofs.KeptRewriting.{Side, rewriting-related, rewriting-side, kept-rewrites}
-use Rattle.rewrite_core.proofs.KeptRows.{row-width, list-width, blank-width, length-nulls, nulls-of_rewriting, kept-row, kept-kinds}
+use Rattle.rewrite_core.proofs.KeptRows.{row-width, list-width, blank-width, nulls-of_rewriting, kept-row, kept-kinds}
 use Rattle.rewrite_core.proofs.Places.{at, at-between, at-moved, at-within, within-range}
 use Rattle.rewrite_core.specs.rewritings.KeptColumns.{kept_places, pairs_of, columns_kept}
 use Rattle.query_laws.proofs.Inputs.{across, aggregate-input}
+use Rattle.query_laws.proofs.Joined.{length-nulls}
 use Rattle.contribution.proofs.ColumnQueries.{all-first, all-nothing, all-rest}
 use Rattle.contribution.proofs.SameTests.{tests-value, conjunction-formed}
 use Rattle.rewrite_core.specs.rewritings.Rewritten.{Beside}

@@ -36,7 +36,7 @@ use Rattle.contribution.proofs.NodeQueries.{formed-pairs, meaning-pairs, plain-p
 use Rattle.contribution.specs.MovedColumns.{IsMoved}
 use Rattle.bag_algebra.proofs.Truths.{both-true}
 use Rattle.rewrite_core.proofs.Faults.{SameFaults, kept-alike, gather-bad_alike, mapped-same_faults, same_faults-then}
-use Rattle.rewrite_core.proofs.KeptRows.{flat-append, flat-all_empty, length-nulls, nulls-append, list-width}
+use Rattle.rewrite_core.proofs.KeptRows.{flat-append, flat-all_empty, nulls-append, list-width}
 use Rattle.rewrite_core.proofs.JoinColumns.{all-columns, all-within, own-columns, own-within}
 use Rattle.rewrite_core.proofs.FlatRows.{Flattened, flattened, stands_beside}
 use Rattle.rewrite_core.proofs.NodeRows.{Made, rewritten-over_both}
@@ -47,6 +47,7 @@ use Rattle.rewrite_core.specs.JoinColumns.{own_places, added_places, IsLaidOut}
 use Rattle.rewrite_core.specs.rewritings.Rewritten.{Beside}
 use Rattle.query_laws.proofs.AnswerRows.{answer-in, answer-from}
 use Rattle.query_laws.proofs.JoinLists.{join-lists}
+use Rattle.query_laws.proofs.Joined.{length-nulls}
 use Rattle.query_laws.proofs.PairedLists.{none_passes, none-pass}
 use Rattle.query_laws.specs.ListsOfNodes as law
 use Rattle.query_laws.specs.SublinkLists.{InAnswer, no_sublink}

@@ -1,9 +1,8 @@
 -- The numbers of classes, one row after another.
 use Rattle.std.proofs.Common.{◌≡◌, ◌≢◌, ℕ, zero, suc, ◌<◌, ◌≤◌, Bool, true, false, cond, nat_eq, ◌||◌, List, [], ◌∷◌, ◌++◌, map, length, get_or, Some, refl, sym, ap, subst, ◌∙◌, arith, true≢false}
-use Rattle.std.proofs.lemmas.Bool.Decides.{nat_tests}
 use Rattle.std.proofs.lemmas.List.{map-append}
 use Rattle.std.proofs.lemmas.Option.{slice_get_within, same_Some}
-use Rattle.std.proofs.lemmas.Bool.{eq-eqb}
+use Rattle.std.proofs.lemmas.Bool.{eq-eqb, ne_eqb}
 use Rattle.std.specs.List.{list_any, slice_get}
 use Rattle.indexmap.specs.IndexSet.{insert_key}
 use Rattle.perm_values.specs.Rows.{same_row, picked}
@@ -116,9 +115,6 @@ one_place (k ∷ keys) (suc n) (suc m) key h e f = ap suc (one_place keys n m ke
 
 -- ---- the rows with a key's number are those of its class
 
-other_number : (a b : ℕ) → a ≢ b → nat_eq a b ≡ false
-other_number a b e = grind (arith, nat_tests)
-
 pub numbered-is : (groups : List ℕ) (us keys : Bag) (numbers : List ℕ) (number : ℕ) (key : Row) → IsClassed groups us keys numbers →
     slice_get keys number ≡ Some key → numbered number numbers us ≡ class_of groups key us
 numbered-is groups us keys numbers number key c at = rows numbers us c.found
@@ -133,7 +129,7 @@ numbered-is groups us keys numbers number key c at = rows numbers us c.found
 
     test : (n : ℕ) (v : Row) (b : Bool) → slice_get keys n ≡ Some (picked groups v) → same_row (picked groups v) key ≡ b → nat_eq n number ≡ b
     test n v true e f = eq-eqb n number (one_place keys n number key single (e ∙ ap Some (same_row-is (picked groups v) key f)) at)
-    test n v false e f = other_number n number (other n v e f)
+    test n v false e f = ne_eqb n number (other n v e f)
 
     rows : (ns : List ℕ) (vs : Bag) → map (slice_get keys) ns ≡ map (λ u. Some (picked groups u)) vs → numbered number ns vs ≡ class_of groups key vs
     rows [] [] e = refl

@@ -31,6 +31,7 @@ use Rattle.bag_algebra.specs.declared.query.Query.TheVariants.{Filter}
 use Rattle.bag_algebra.specs.declared.query.SubKind.{SubKind}
 use Rattle.bag_algebra.specs.declared.query.SubKind.TheVariants as sub
 use Rattle.bag_algebra.specs.declared.query.Sublink.{Sublink}
+use Rattle.contribution.proofs.SameTests.{all_hold-faultless}
 use Rattle.contribution.proofs.WhereGood.{Each}
 use Rattle.contribution.specs.Conjunctions.{all_hold}
 use Rattle.rewrite_core.proofs.Itself.{stands-onward}
@@ -38,7 +39,7 @@ use Rattle.simpler_laws.proofs.Gathered.{filter-good, filter-twice, mapped-twice
 use Rattle.simpler_laws.proofs.Parting.{two-halves, passed, faultless-passed, have-passed}
 use Rattle.simpler_laws.proofs.Reading.{value-read, kind-read}
 use Rattle.simpler_laws.proofs.TestedQueries.{stands-same, kinds-tested, plain-tested, tables-tested, tables-untested, formed-tested, formed-untested, meaning-tested}
-use Rattle.simpler_laws.proofs.Testing.{all_hold-faultless, all_hold-formed, all_hold-met, conjuncts-faultless, conjuncts-formed, conjuncts-met, have-append}
+use Rattle.simpler_laws.proofs.Testing.{all_hold-formed, all_hold-met, conjuncts-faultless, conjuncts-formed, conjuncts-met, have-append}
 use Rattle.simpler_laws.specs.Conjuncts.{conjuncts}
 use Rattle.simpler_laws.specs.Parts.{is_bound, is_free, IsParted}
 use Rattle.simpler_laws.specs.Tested.{hold, tested}

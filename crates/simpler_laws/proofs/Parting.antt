@@ -9,7 +9,7 @@ use Rattle.perm_values.specs.Rows.{picked, value_at, PlacesWithin}
 use Rattle.perm_values.specs.declared.kind.Kind.{Kind}
 use Rattle.perm_values.specs.declared.kind.Kind.TheVariants as kind
 use Rattle.perm_values.specs.declared.value.Value.TheVariants.{Null}
-use Rattle.bag_algebra.proofs.Truths.{and_true, left-true, right-true, both-true}
+use Rattle.bag_algebra.proofs.Truths.{and_true, left-true, right-true, both-true, and_turn}
 use Rattle.bag_algebra.specs.Bags.{Row}
 use Rattle.bag_algebra.specs.Expressions.{value}
 use Rattle.bag_algebra.specs.FaultFree.{faultless}
@@ -67,16 +67,11 @@ to-front : (m a b : Bool) → (m && (a && b)) ≡ ((m && a) && b)
 to-front true a b = refl
 to-front false a b = refl
 
-to-back : (m a b : Bool) → (m && (a && b)) ≡ (a && (m && b))
-to-back true a b = refl
-to-back false true b = refl
-to-back false false b = refl
-
 module _ {X : Type 0} (holds : X → Bool) where
   one-half : (b : Bool) (x : X) (fs os : List X) (rest : Bool) → rest ≡ (list_all holds fs && list_all holds os) →
       (holds x && rest) ≡ (list_all holds (cond b (x ∷ fs) fs) && list_all holds (cond (not b) (x ∷ os) os))
   one-half true x fs os rest e = ap (λ c. holds x && c) e ∙ to-front (holds x) (list_all holds fs) (list_all holds os)
-  one-half false x fs os rest e = ap (λ c. holds x && c) e ∙ to-back (holds x) (list_all holds fs) (list_all holds os)
+  one-half false x fs os rest e = ap (λ c. holds x && c) e ∙ and_turn (holds x) (list_all holds fs) (list_all holds os)
 
   pub two-halves : (f : X → Bool) (xs : List X) → list_all holds xs ≡ (list_all holds (filter f xs) && list_all holds (filter (λ x. not (f x)) xs))
   two-halves f [] = refl

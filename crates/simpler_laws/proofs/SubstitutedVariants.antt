@@ -1,5 +1,6 @@
 -- Each variant of an expression is substituted in where its parts are.
 use Rattle.std.proofs.Common.{◌≡◌, ℕ, zero, suc, ◌≤◌, ◌<◌, Bool, true, ◌&&◌, List, [], ◌∷◌, length, Some, refl, sym, ap, ◌∙◌, subst, arith, get_or}
+use Rattle.std.proofs.lemmas.Option.{same_Some}
 use Rattle.std.specs.Prelude.{slice_get}
 use mathlib.Core.Bool.{beq}
 use Rattle.null_logic.specs.Comparison.{is_null}
@@ -53,15 +54,12 @@ column-value (first ∷ lower) zero item low is calm u env subs =
     ap (λ (i : Item). value i.expr u env subs) is ∙ item-value first lower calm u env subs
 column-value (first ∷ lower) (suc place) item low is calm u env subs = column-value lower place item (omega (arith, low)) is (rest-calm first lower calm) u env subs
 
-the_one : {A : Type 0} {a b : A} → Some a ≡ Some b → a ≡ b
-the_one e = cc
-
 module _ (scopes : List (List Kind)) (subs : List Kind) where
   column-formed : (lower : List Item) (place : ℕ) (item : Item) (kind : Kind) → place < length lower → item ≡ get_or lower place item →
       Each (λ (i : Item). HasKind scopes subs i.expr i.kind) lower → slice_get (item_kinds lower) place ≡ Some kind → HasKind scopes subs item.expr kind
   column-formed [] place item kind low is h e = absurd (omega (arith, low))
   column-formed (first ∷ lower) zero item kind low is h e =
-      subst (λ (i : Item). HasKind scopes subs i.expr kind) (sym is) (subst (HasKind scopes subs first.expr) (the_one e) h.0)
+      subst (λ (i : Item). HasKind scopes subs i.expr kind) (sym is) (subst (HasKind scopes subs first.expr) (same_Some _ _ e) h.0)
   column-formed (first ∷ lower) (suc place) item kind low is h e = column-formed lower place item kind (omega (arith, low)) is h.1 e
 
 pub substituted-column : (lower : List Item) (place : ℕ) (item : Item) → place < length lower → item ≡ get_or lower place item →

@@ -28,10 +28,11 @@ use Rattle.bag_algebra.specs.declared.expr.Expr.{Expr}
 use Rattle.bag_algebra.specs.declared.query.Query.{Query}
 use Rattle.bag_algebra.specs.declared.query.Query.TheVariants.{Filter}
 use Rattle.contribution.specs.Conjunctions.{all_hold}
+use Rattle.contribution.proofs.SameTests.{all_hold-faultless}
 use Rattle.query_laws.proofs.SameExpressions.{same-itself}
 use Rattle.query_laws.proofs.StandingNodes.{stands-Filter}
 use Rattle.simpler_laws.proofs.Gathered.{filter-all, filter-good, filter-twice, mapped-twice}
-use Rattle.simpler_laws.proofs.Testing.{all_hold-faultless, all_hold-formed, all_hold-met, all_hold-opened, conjuncts-faultless, conjuncts-formed, conjuncts-met, have-append}
+use Rattle.simpler_laws.proofs.Testing.{all_hold-formed, all_hold-met, all_hold-opened, conjuncts-faultless, conjuncts-formed, conjuncts-met, have-append}
 use Rattle.simpler_laws.specs.Conjuncts.{conjuncts}
 use Rattle.simpler_laws.specs.Tested.{hold, tested}
 

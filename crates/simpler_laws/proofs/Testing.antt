@@ -20,7 +20,7 @@ use Rattle.bag_algebra.specs.FaultFree.{faultless, parts_faultless}
 use Rattle.bag_algebra.specs.Means.{is_met}
 use Rattle.bag_algebra.specs.Outcome.{Outcome, Good, Bad, and_then, both}
 use Rattle.bag_algebra.specs.WellFormed.{HasKind, PartsHave}
-use Rattle.bag_algebra.specs.built.FaultFree.{all_parts_faultless, faultless-Op}
+use Rattle.bag_algebra.specs.built.FaultFree.{all_parts_faultless}
 use Rattle.bag_algebra.specs.built.Forms.{AllHave, parts_have-built, parts_have-opened, number_of_parts-built}
 use Rattle.bag_algebra.specs.built.Openings.{value-Op}
 use Rattle.bag_algebra.specs.built.Patterns.{OpOf, ChainOf, CaseOf, IsNullOf, IsTruthOf, SameOf}
@@ -60,11 +60,6 @@ module _ (u : Row) (env : List Row) (subs : List Value) where
   all_hold-met [] = refl
   all_hold-met (test ∷ []) = sym (and_true (is_met (value test u env subs)))
   all_hold-met (test ∷ other ∷ tests) = ap is_met (value-Op u env subs op.And (test ∷ other ∷ tests)) ∙ and-met (test ∷ other ∷ tests)
-
-pub all_hold-faultless : (tests : List Expr) → all_parts_faultless tests ≡ true → faultless (all_hold tests) ≡ true
-all_hold-faultless [] h = refl
-all_hold-faultless (test ∷ []) h = sym (and_true (faultless test)) ∙ h
-all_hold-faultless (test ∷ other ∷ tests) h = faultless-Op op.And (test ∷ other ∷ tests) ∙ h
 
 module _ (scopes : List (List Kind)) (subs : List Kind) where
   pub all_hold-formed : (tests : List Expr) → AllHave scopes subs tests kind.Boolean → HasKind scopes subs (all_hold tests) kind.Boolean

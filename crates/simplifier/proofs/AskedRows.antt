@@ -1,12 +1,11 @@
 -- What an EXISTS or an ANY over a spine asks of a row is true exactly where some row of the spine's base meets the test.
 use Rattle.std.proofs.Common.{◌≡◌, ◌≤◌, ◌<◌, Bool, true, false, cond, ◌&&◌, ◌||◌, List, [], ◌∷◌, ◌++◌, length, get_or, map, Option, Some, None, refl, sym, ap, ◌∙◌, subst, arith}
 use Rattle.std.specs.List.{list_any}
-use Rattle.null_logic.specs.Comparison.{compare_values, is_null}
+use Rattle.null_logic.specs.Comparison.{compare_values}
 use Rattle.null_logic.specs.Logic.{is_true, truth_of, value_of}
 use Rattle.null_logic.specs.declared.compare.Compare.{Compare}
 use Rattle.null_logic.specs.declared.operator.Operator.TheVariants as op
-use Rattle.null_logic.specs.declared.truth.Truth.{Truth}
-use Rattle.null_logic.specs.declared.truth.Truth.TheVariants.{True, False, Unknown}
+use Rattle.null_logic.specs.declared.truth.Truth.TheVariants.{True}
 use Rattle.perm_values.specs.declared.kind.Kind.{Kind}
 use Rattle.perm_values.specs.declared.value.Value.{Value}
 use Rattle.perm_values.specs.declared.value.Value.TheVariants.{Boolean, Null}
@@ -31,6 +30,7 @@ use Rattle.bag_algebra.specs.declared.query.Sublink.{Sublink}
 use Rattle.bag_algebra.specs.declared.query.SubKind.TheVariants.{Any, Exists}
 use Rattle.contribution.proofs.AddedColumns.{columns-added}
 use Rattle.contribution.proofs.Growth.{tested-same}
+use Rattle.contribution.proofs.TruthKept.{some_of-is_true}
 use Rattle.query_laws.proofs.SpineItems.{items-good, row_by}
 use Rattle.query_laws.proofs.SpineRows.{spine_row, where_holds}
 use Rattle.query_laws.specs.spines.Spines.{test_of, tests_with}
@@ -44,16 +44,6 @@ only (y ∷ []) x h k e = ap (λ z. z ∷ []) (sym e)
 only (y ∷ z ∷ xs) x h k e = absurd (omega (arith, k))
 
 -- ---- truths
-
-some-is : (ts : List Truth) → is_true (some_of ts) ≡ list_any is_true ts
-some-is ts = by_some (list_any is_true ts) where
-  by_rest : (b : Bool) → is_true (cond b Unknown False) ≡ false
-  by_rest true = refl
-  by_rest false = refl
-
-  by_some : (b : Bool) → is_true (cond b True (cond (list_any (λ t. is_null (value_of t)) ts) Unknown False)) ≡ b
-  by_some true = refl
-  by_some false = by_rest (list_any (λ t. is_null (value_of t)) ts)
 
 any-map : {X Y : Type 0} (f : X → Y) (p : Y → Bool) (xs : List X) → list_any p (map f xs) ≡ list_any (λ x. p (f x)) xs
 any-map f p [] = refl
@@ -110,7 +100,7 @@ any-holds : (c : Compare) (x : Value) (rows : Outcome Bag) (found : Bool) → ma
 any-holds c x (Good bag) found e = record {
   given = value_of (some_of (comparisons c x bag));
   good = refl;
-  holds = holds-truth (some_of (comparisons c x bag)) ∙ some-is (comparisons c x bag) ∙ any-map (λ row. compare_values c x (cell row)) is_true bag
+  holds = holds-truth (some_of (comparisons c x bag)) ∙ some_of-is_true (comparisons c x bag) ∙ any-map (λ row. compare_values c x (cell row)) is_true bag
       ∙ good_same (list_any (λ row. is_true (compare_values c x (cell row))) bag) found e;
 }
 any-holds c x (Bad faults) found e = absurd (cc e)

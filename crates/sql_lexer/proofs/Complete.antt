@@ -1,5 +1,5 @@
 -- What stands at the front of a text is read there.
-use Rattle.std.proofs.Common.{◌≡◌, ◌≤◌, ◌<◌, ◌^◌, ℕ, ℤ, pos, ◌+◌, true, false, ◌&&◌, List, [], ◌∷◌, ◌++◌, length, Option, Some, None, refl, sym, ap, ◌∙◌, ⊎_elim, arith, append_assoc}
+use Rattle.std.proofs.Common.{◌≡◌, ◌≤◌, ◌<◌, ◌^◌, ℕ, ℤ, pos, ◌+◌, true, false, ◌&&◌, List, [], ◌∷◌, ◌++◌, length, Some, None, refl, sym, ap, ◌∙◌, ⊎_elim, arith, append_assoc}
 use Rattle.std.proofs.Math.Bool.{and-false}
 use Rattle.std.specs.Prelude.{nat_eq, is_some}
 use Rattle.std.specs.List.{list_all}
@@ -8,6 +8,8 @@ use Rattle.std.specs.Str.Parse.{digits_value}
 use Rattle.std.proofs.lemmas.Bool.{eqb-true, lt-ltb, le-ltb, cases_Bool, or_parts, and_from}
 use Rattle.std.proofs.lemmas.List.{length-append}
 use Rattle.std.proofs.Math.Seq.{take-append_seam}
+use Rattle.std.proofs.lemmas.Option.{same_Some}
+use Rattle.perm_values.proofs.Steps.{is_none-is}
 use Rattle.sql_lexer.specs.declared.token.Token.{Token}
 use Rattle.sql_lexer.specs.declared.token.TokenKind.{TokenKind}
 use Rattle.sql_lexer.specs.declared.token.TokenKind.TheVariants.{Word, Quoted, Number, Text, Symbol}
@@ -57,13 +59,6 @@ quote_class : (class_of 34 ≡ Quote) × (class_of 39 ≡ Quote)
 unfolding class_of
 quote_class = (refl, refl)
 
-none_from : {X : Type 0} (o : Option X) → is_some o ≡ false → o ≡ None
-none_from None e = refl
-none_from (Some x) e = absurd (cc)
-
-some_same : {X : Type 0} {x y : X} → Some x ≡ Some y → x ≡ y
-some_same e = cc
-
 -- no comment begins here
 comment_or_symbol_is : (at b : ℕ) (rest : List ℕ) → (nat_eq b 45 && next_is (λ c. nat_eq c 45) rest) ≡ false → comment_or_symbol at b rest ≡ symbol at b (pair_at b rest)
 unfolding comment_or_symbol
@@ -74,7 +69,7 @@ symbol_of_one : (at b : ℕ) (rest : List ℕ) → is_single b ≡ true → next
 symbol_of_one at b [] is stop = comment_or_symbol_is at b [] (and-false (nat_eq b 45)) ∙ rw (single_class b is) refl
 symbol_of_one at b (c ∷ rest) is stop =
     let parts = or_parts (is_some (pair b c)) (nat_eq b 45 && nat_eq c 45) stop in
-    comment_or_symbol_is at b (c ∷ rest) parts.1 ∙ rw (none_from (pair b c) parts.0, single_class b is) refl
+    comment_or_symbol_is at b (c ∷ rest) parts.1 ∙ rw (is_none-is (pair b c) parts.0, single_class b is) refl
 
 symbol_of_two : (at b c : ℕ) (rest spelled : List ℕ) → pair b c ≡ Some spelled → comment_or_symbol at b (c ∷ rest) ≡ one Symbol at (at + 2) spelled (pos 0)
 symbol_of_two at b c rest spelled e = comment_or_symbol_is at b (c ∷ rest) (pair_class b c spelled e).1 ∙ ap (symbol at b) e
@@ -85,7 +80,7 @@ symbol_reads : (at : ℕ) (bytes rest spelled : List ℕ) → held bytes ≡ Som
 symbol_reads at [] rest spelled e stop = absurd (cc)
 symbol_reads at (b ∷ []) rest spelled e stop =
     ⊎_elim (λ is. let same : Some (b ∷ []) ≡ Some spelled = rw is at e in
-    by Single at b rest (single_class b is) ∙ symbol_of_one at b rest is stop ∙ ap (λ word. one Symbol at (at + 1) word (pos 0)) (some_same same))
+    by Single at b rest (single_class b is) ∙ symbol_of_one at b rest is stop ∙ ap (λ word. one Symbol at (at + 1) word (pos 0)) (same_Some _ _ same))
     (λ other. let none : None ≡ Some spelled = rw other at e in absurd (cc)) (cases_Bool (is_single b))
 symbol_reads at (b ∷ c ∷ []) rest spelled e stop =
     ⊎_elim (λ is. by Single at b (c ∷ rest) is ∙ symbol_of_two at b c rest spelled e) (λ is. by Other at b (c ∷ rest) is ∙ symbol_of_two at b c rest spelled e)
@@ -121,7 +116,7 @@ piece_reads (token {at} {bytes} {rest} {token} is stop) =
 
 pair_none : (b : ℕ) (rest : List ℕ) → next_is (λ c. is_some (pair b c)) rest ≡ false → pair_at b rest ≡ None
 pair_none b [] stop = refl
-pair_none b (c ∷ rest) stop = none_from (pair b c) stop
+pair_none b (c ∷ rest) stop = is_none-is (pair b c) stop
 
 other_dash : (b : ℕ) → class_of b ≡ Other → nat_eq b 45 ≡ false
 other_dash b e =

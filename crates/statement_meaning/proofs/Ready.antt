@@ -5,6 +5,7 @@ use Rattle.std.proofs.lemmas.List.Elements.{All-contains}
 use Rattle.std.specs.Option.{option_map_or}
 use Rattle.std.specs.Prelude.{is_none, is_some}
 use Rattle.perm_values.proofs.Lists.{front-none, back-none}
+use Rattle.perm_values.proofs.Steps.{is_none-is}
 use Rattle.bag_algebra.proofs.TablesRead.{each_table-from_told}
 use Rattle.bag_algebra.specs.TablesRead.{EachTable, TableRead, tables_read}
 use Rattle.query_facts.specs.monotone.Conditions.{ConditionFits}
@@ -51,10 +52,6 @@ there : {X : Type 0} (o : Option X) → is_none o ≡ false → IsSome o
 there None e = absurd (cc e)
 there (Some x) e = refl
 
-nothing : {X : Type 0} (o : Option X) → is_some o ≡ false → o ≡ None
-nothing None e = refl
-nothing (Some x) e = absurd (cc e)
-
 pub names-long : (columns : List OutColumn) → length (names_of (settled_columns columns)) ≡ length columns
 names-long [] = refl
 names-long (column ∷ columns) = ap suc (names-long columns)
@@ -70,7 +67,7 @@ module _ (c : Contents) where
   known-view name e = there (view_named c name.text) (unbroken (is_none (view_named c name.text)) rule.UnknownRelation name.at e)
 
   unused : (name : Name) → used c name ≡ [] → first_user c name.text ≡ None
-  unused name e = nothing (first_user c name.text) (unbroken (is_some (first_user c name.text)) rule.UsedByView name.at e)
+  unused name e = is_none-is (first_user c name.text) (unbroken (is_some (first_user c name.text)) rule.UsedByView name.at e)
 
   looked-at : (name : Name) (looked : TableEntry → List Break) → on_table c name looked ≡ [] → IsSome (table_named c name.text)
   looked-at name looked = chosen (table_named c name.text) where

@@ -155,7 +155,7 @@ unfolding shape-the_row-Expr-0 hidden-the_row-Expr-0 package.denote.Hole.Carrier
 values-row_of_parts [] u env subs = refl
 values-row_of_parts (part ∷ parts) u env subs = ap (both (λ v vs. v ∷ vs) (value part u env subs)) (values-row_of_parts parts u env subs)
 
-both-mapped : {X Y Z W : Type 0} (f : Y → Z → W) (g : X → Y) (a : Outcome X) (b : Outcome Z) → both (λ x z. f (g x) z) a b ≡ both f (mapped g a) b
+pub both-mapped : {X Y Z W : Type 0} (f : Y → Z → W) (g : X → Y) (a : Outcome X) (b : Outcome Z) → both (λ x z. f (g x) z) a b ≡ both f (mapped g a) b
 both-mapped f g (Good x) (Good z) = refl
 both-mapped f g (Good x) (Bad h) = refl
 both-mapped f g (Bad k) (Good z) = refl

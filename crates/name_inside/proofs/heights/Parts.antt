@@ -10,7 +10,7 @@ use Rattle.bag_algebra.specs.declared.query.JoinKind.TheVariants as join
 use Rattle.perm_catalog.specs.Contents.{Contents}
 use Rattle.perm_catalog.specs.Sound.{IsSound}
 use Rattle.perm_values.specs.declared.kind.Kind.{Kind}
-use Rattle.perm_values.proofs.Lists.{front-none, back-none}
+use Rattle.perm_values.proofs.Lists.{front-none, back-none, map-taken}
 use Rattle.sql_tree.specs.Regular.{is_lateral}
 use Rattle.sql_tree.specs.declared.name.ColRef.{ColRef}
 use Rattle.sql_tree.specs.declared.query.Core.{Core, out-Core}
@@ -38,7 +38,6 @@ use Rattle.name_meaning.proofs.Every.{none-whole, whole-none}
 use Rattle.name_meaning.proofs.Lateral.{join-lateral, join-plain, lateral_item, plain_item, plainly}
 use Rattle.name_meaning.proofs.Trees.{item-known}
 use Rattle.name_meaning.specs.laws.Known.{ItemIsKnown}
-use Rattle.name_made_parts.proofs.AskedListing.{mapped}
 use Rattle.name_made_parts.proofs.Sourcing.{join-fields, joins-append}
 use Rattle.name_made_parts.specs.Cored.{items_meant}
 use Rattle.name_seen_cores.proofs.Opened.{chain-means, paren-means, query-means, set-is, step-operand}
@@ -102,7 +101,7 @@ pub chain-high : (c : Contents) (around : Around) (left : QueryMeant) (steps : L
 chain-high c around left steps i step n a b within is bound so_far one =
     let before = set_chain around left (map (set_step_of c) (take i steps)) in
     let part = set_step_of c step in
-    subst (QueryHigh n) (sym (ap (set_chain around left) (mapped (set_step_of c) steps i step within is)
+    subst (QueryHigh n) (sym (ap (set_chain around left) (map-taken (set_step_of c) steps i step within is)
     ∙ chain-behind around left (map (set_step_of c) (take i steps)) part))
     (joined-high n a b before part (part.operand.means (may_not_ask around)) bound so_far
     (subst (λ (body : BodyPart). QueryHigh b (body.means (may_not_ask around))) (sym (step-operand c step)) one))
@@ -303,7 +302,7 @@ pub joins-high : (c : Contents) (outer : List Scope) (left : FromMeant) (joins :
     (joined_item outer (join_all outer left (map (join_of c) (take i joins))) (join_of c step)))
     → FromHigh n (join_all outer left (map (join_of c) (take (i + 1) joins)))
 joins-high c outer left joins i step n within is high =
-    subst (FromHigh n) (sym (ap (join_all outer left) (mapped (join_of c) joins i step within is)
+    subst (FromHigh n) (sym (ap (join_all outer left) (map-taken (join_of c) joins i step within is)
     ∙ joins-append outer left (map (join_of c) (take i joins)) (join_of c step))) high
 
 -- ---- sources
@@ -340,7 +339,7 @@ pub sources-high : (c : Contents) (outer : List Scope) (sources : List FromTree)
 sources-high c outer sources i source n a b within is alone bound left right =
     let parts = map (from_of c) (take i sources) in
     let counted : length parts ≡ i = omega (arith, within, length-map (take i sources) (from_of c), length-take i sources) in
-    subst (λ (all : List FromPart). FromHigh n (from_all outer all)) (sym (mapped (from_of c) sources i source within is))
+    subst (λ (all : List FromPart). FromHigh n (from_all outer all)) (sym (map-taken (from_of c) sources i source within is))
     (more-high outer parts (from_of c source) i n a b counted alone bound left right)
 
 pub no-sources : (outer : List Scope) → FromHigh 0 (from_all outer [])

@@ -34,6 +34,7 @@ use Rattle.name_seen_cores.proofs.Sublinked.{exists-looked, inner-refused, looke
 use Rattle.name_seen.proofs.WhereSeen.{meant_here, operand_here, operands_here}
 use Rattle.std.specs.Prelude.{◌+◌, Bool, Option}
 use Rattle.std.proofs.Common.{take, drop}
+use Rattle.perm_values.proofs.Lists.{map-taken}
 use Rattle.perm_values.proofs.Results.{ok-anyway}
 use Rattle.sql_tree.specs.declared.query.Core.{out-Core}
 use Rattle.sql_tree.specs.declared.source.FromTree.{FromTree, out-FromTree}
@@ -69,7 +70,7 @@ use Rattle.name_seen_cores.proofs.Sourced.{source-behind}
 use Rattle.name_seen.proofs.Nodes.{aggregate-alone, aggregate-means, argument-told, case-means, node-behind, none-first, rest-so, steps-so}
 use Rattle.name_seen.proofs.ListItems.{list-refused, star-seen, table_star-seen, value-refused, value-seen}
 use Rattle.name_seen.proofs.QuerySteps.{body_meant, kinds-known, paren-refused, query-answered, query-refused}
-use Rattle.name_seen.proofs.Rows.{mapped-at, mapped-more as row-more, same-refused, twice-at, twice-more}
+use Rattle.name_seen.proofs.Rows.{mapped-at, same-refused, twice-at, twice-more}
 use Rattle.name_seen.proofs.+seen.Goals as goal
 
 pub expressions::expression_seen-returns-in-Null : goal.expressions::expression_seen-returns-in-Null
@@ -539,7 +540,7 @@ sets::operands_seen-loop-step-preserved t c = λ left before first.
     let around = around_of c.args.around.now in
     let steps = map (set_step_of c.args.around.now.catalog.now) (take c.loop-step.step-index c.args.steps.now) in
     subst (λ (m : QueryMeant). ColumnsSeen m before c.operand_seen-seen.new.facts c.operand_seen-seen.result)
-    (sym (ap (set_chain around left) (row-more (set_step_of c.args.around.now.catalog.now) c.args.steps.now c.loop-step.step-index c.step-item.result c.loop-step-test.true c.step-item.is)
+    (sym (ap (set_chain around left) (map-taken (set_step_of c.args.around.now.catalog.now) c.args.steps.now c.loop-step.step-index c.step-item.result c.loop-step-test.true c.step-item.is)
     ∙ chain-behind around left steps (set_step_of c.args.around.now.catalog.now c.step-item.result)))
     (c.operand_seen-seen.ensures (set_chain around left steps) before (c.loop-step.invariant left before first))
 
@@ -810,7 +811,7 @@ sources::source_items-loop-step-preserved t c =
     let is = rw c.as_slice-step-items.ensures at c.step-item.is in
     record {
       seen = subst (λ (m : FromMeant). FromWhole m earlier c.args.facts.now c.join_seen.new.facts c.join_seen.new.scope)
-          (sym (ap (join_all outer (first_item earlier first)) (row-more join joins c.loop-step.step-index c.step-item.result within is)
+          (sym (ap (join_all outer (first_item earlier first)) (map-taken join joins c.loop-step.step-index c.step-item.result within is)
           ∙ joins-behind outer (first_item earlier first) (map join (take c.loop-step.step-index joins)) (join c.step-item.result)))
           (c.in_ok-join_seen.ensures.seen so_far earlier c.args.facts.now c.loop-step.invariant.named c.loop-step.invariant.seen);
       named = c.in_ok-join_seen.ensures.named earlier c.loop-step.invariant.named;
@@ -862,7 +863,7 @@ sources::from_scope-loop-source-preserved t c =
     let so_far = map part (take c.loop-source.source-index c.args.sources.now) in
     record {
       seen = subst (λ (parts : List FromPart). FromWhole (from_all outer parts) [] c.args.facts.now c.source_items.new.facts c.add_items.new.left)
-          (sym (row-more part c.args.sources.now c.loop-source.source-index c.source-item.result c.loop-source-test.true c.source-item.is))
+          (sym (map-taken part c.args.sources.now c.loop-source.source-index c.source-item.result c.loop-source-test.true c.source-item.is))
           (source-behind outer so_far (part c.source-item.result) c.args.facts.now c.loop-source.facts c.source_items.new.facts c.loop-source.scope c.in_ok-own.own c.add_items.new.left
           c.loop-source.invariant.seen
           (subst (λ (names : List (List ℕ)). FromSeen ((part c.source-item.result).means outer names) names c.loop-source.facts c.source_items.new.facts (Ok c.in_ok-own.own))

@@ -8,7 +8,7 @@ use Rattle.bag_algebra.specs.Bags.{Row, Bag, sorted}
 use Rattle.bag_algebra.specs.Expressions.{value}
 use Rattle.bag_algebra.specs.Meaning.{Database, meaning}
 use Rattle.bag_algebra.specs.Means.{holds_of}
-use Rattle.bag_algebra.specs.Outcome.{Outcome, Good, Bad, each, both, mapped}
+use Rattle.bag_algebra.specs.Outcome.{Outcome, Good, Bad, each, mapped}
 use Rattle.bag_algebra.specs.TableRows.{rows_in}
 use Rattle.bag_algebra.specs.declared.expr.Expr.{Expr}
 use Rattle.bag_algebra.specs.declared.query.Query.{Query}
@@ -29,8 +29,7 @@ use Rattle.statement_meaning.specs.Asking.{Asked, Settled, Begins, Explained, as
 use Rattle.statement_meaning.specs.Turns.{Turn, Accepted, Refused, Broken, on_good, drawing, counting, identity_of, add_rows, add_unbroken, answered, copy, goes, reads, row_value, rows_before, rows_deleted, rows_going, rows_lost, store_answer, with_added, with_answer}
 use Rattle.statement_meaning.specs.declared.refusal.StepRefusal.{StepRefusal}
 use Rattle.statement_meaning.specs.declared.refusal.StepRefusal.TheVariants as refusal
-use Rattle.bag_algebra.proofs.Outcomes.{union-first}
-use Rattle.query_laws.proofs.Caused.{Caused, caused-value, caused-denote}
+use Rattle.query_laws.proofs.Caused.{Caused, caused-value, caused-denote, caused-each, caused-both}
 use Rattle.name_meaning.specs.declared.rule.Rule.TheVariants as rule
 
 abbrev pub is_told : StepRefusal → Bool
@@ -72,16 +71,6 @@ drawing-named c at text new = chosen (nat_eq c.next last_number) where
   chosen : (spent : Bool) → HasName (cond spent (Refused (Broken (broken rule.NumbersSpent at))) (Accepted text new))
   chosen true = broken-named (broken rule.NumbersSpent at)
   chosen false = tt
-
-caused-both : {X Y Z : Type 0} (f : X → Y → Z) (a : Outcome X) (b : Outcome Y) → Caused a → Caused b → Caused (both f a b)
-caused-both f (Good x) (Good y) c d = tt
-caused-both f (Good x) (Bad h) c d = d
-caused-both f (Bad g) (Good y) c d = c
-caused-both f (Bad g) (Bad h) c d = (c.0, union-first g h c.0 c.1)
-
-caused-each : {X Y : Type 0} (f : X → Outcome Y) (xs : List X) → ((x : X) → Caused (f x)) → Caused (each f xs)
-caused-each f [] h = tt
-caused-each f (x ∷ xs) h = caused-both (λ y ys. y ∷ ys) (f x) (each f xs) (h x) (caused-each f xs h)
 
 goes-caused : (condition : Option Expr) (row : Row) → Caused (goes condition row)
 goes-caused None row = tt

@@ -31,9 +31,9 @@ use Rattle.contribution.proofs.NodeQueries.{formed-pairs, meaning-pairs, plain-p
 use Rattle.contribution.proofs.NoRowLost.{Joined, pair, left_alone, right_alone, from-joined_rows}
 use Rattle.contribution.proofs.SameTests.{conjunction-formed, tests-value}
 use Rattle.contribution.proofs.SetsOfRows.{Included}
-use Rattle.query_laws.proofs.Joined.{same_parts}
+use Rattle.query_laws.proofs.Joined.{same_parts, length-nulls}
 use Rattle.query_laws.proofs.PairedLists.{none-pass, none_passes}
-use Rattle.rewrite_core.proofs.KeptRows.{length-nulls, nulls-append}
+use Rattle.rewrite_core.proofs.KeptRows.{nulls-append}
 use Rattle.rewrite_sublink.proofs.joins.PairColumns.{Widths, arranged, as_many, five, length-five, pair-columns, pair-within, pair_width, part-within, row-columns, row-within}
 use Rattle.rewrite_sublink.specs.joins.ByParts.{columns_of_pair, is_part, marked, places_in_pair, row_width, with_alone}
 use Rattle.rewrite_sublink.specs.declared.joins.sides.Side.{Side}

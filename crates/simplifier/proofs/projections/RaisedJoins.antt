@@ -1,5 +1,5 @@
 -- A join of projections to columns is a projection to columns over the join, of whatever kind it is.
-use Rattle.std.proofs.Common.{◌≡◌, ℕ, suc, zero, ◌+◌, ◌<◌, ◌≤◌, true, ◌&&◌, List, [], ◌∷◌, ◌++◌, map, length, refl, sym, ap, ◌∙◌, subst, arith, length-append}
+use Rattle.std.proofs.Common.{◌≡◌, ℕ, zero, ◌+◌, ◌<◌, ◌≤◌, true, ◌&&◌, List, [], ◌∷◌, ◌++◌, map, length, refl, sym, ap, ◌∙◌, subst, arith, length-append}
 use Rattle.std.proofs.lemmas.List.{length-map, map-append}
 use Rattle.std.proofs.lemmas.List.Elements.{All-append}
 use Rattle.perm_values.specs.Rows.{picked, value_at, PlacesWithin}
@@ -29,6 +29,7 @@ use Rattle.contribution.proofs.ColumnQueries.{all-first, all-nothing, all-rest, 
 use Rattle.contribution.proofs.QueryKinds.{denote-fits}
 use Rattle.contribution.proofs.RowKinds.{RowFits, nulls-fit, row_fits-length}
 use Rattle.contribution.specs.MovedColumns.{IsMoved}
+use Rattle.query_laws.proofs.SpineItems.{nulls-null}
 use Rattle.rewrite_core.proofs.Itself.{stands-onward}
 use Rattle.rewrite_core.proofs.Places.{at-moved, at-within}
 use Rattle.simpler_laws.proofs.TestedQueries.{stands-equal}
@@ -57,14 +58,9 @@ pairs-within n m lefts rights h k =
 
 -- ---- rows
 
-nulls-at : (n place : ℕ) → value_at (nulls n) place ≡ Null
-nulls-at zero place = refl
-nulls-at (suc n) zero = refl
-nulls-at (suc n) (suc place) = nulls-at n place
-
 nulls-picked : (n : ℕ) (places : List ℕ) → picked places (nulls n) ≡ nulls (length places)
 nulls-picked n [] = refl
-nulls-picked n (place ∷ places) = λ i. nulls-at n place i ∷ nulls-picked n places i
+nulls-picked n (place ∷ places) = λ i. nulls-null n place i ∷ nulls-picked n places i
 
 pair-picked : (n : ℕ) (lefts rights : List ℕ) (u v : Row) → length u ≡ n → PlacesWithin n lefts →
     picked (pair_places lefts n rights) (u ++ v) ≡ picked lefts u ++ picked rights v

@@ -10,6 +10,7 @@ use Rattle.perm_values.specs.declared.value.Value.{Value}
 use Rattle.perm_values.specs.declared.value.Value.TheVariants.{Null}
 use Rattle.bag_algebra.specs.Outcome.{Faults, Outcome, Good, Bad, both, each, has, mapped}
 use Rattle.bag_algebra.proofs.Truths.{or_false, or_true}
+use Rattle.query_laws.proofs.Choice.{same_flag}
 use Rattle.sql_printer.specs.rows.Carried.{Answered}
 use Rattle.sql_printer.proofs.rows.AskedNumbers.{asks, Below}
 
@@ -25,11 +26,6 @@ abbrev pub looked_at : Answers → Outcome (List Value)
 looked_at os = each (λ o. o) os
 
 -- ---- tests of what is taken
-
-equal_tests : (a b : Bool) → (a ≡ true → b ≡ true) → (b ≡ true → a ≡ true) → a ≡ b
-equal_tests true b f g = sym (f refl)
-equal_tests false true f g = g refl
-equal_tests false false f g = refl
 
 module _ (test : Outcome Value → Bool) where
   any-at : (os : Answers) (number : ℕ) → number < length os → test (answer_at os number) ≡ true → list_any test os ≡ true
@@ -78,7 +74,7 @@ module _ (test : Outcome Value → Bool) where
 
     taken-any : (numbers : List ℕ) → Below (length os) numbers → ((number : ℕ) → number < length os → asks numbers number ≡ true)
         → list_any test (map (answer_at os) numbers) ≡ list_any test os
-    taken-any numbers below all = equal_tests (list_any test (map (answer_at os) numbers)) (list_any test os) (from-taken numbers below)
+    taken-any numbers below all = same_flag (list_any test (map (answer_at os) numbers)) (list_any test os) (from-taken numbers below)
         (λ e. let found = any-where os e in to-taken numbers found.0 (all found.0 found.1) found.2)
 
 -- ---- outcomes

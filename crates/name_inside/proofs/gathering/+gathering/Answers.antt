@@ -13,10 +13,10 @@ use Rattle.name_inside.proofs.Cores.{chain-stands, clauses-adds, core-adds, core
 use Rattle.name_inside.proofs.Gone.{flat-more, mapped-more}
 use Rattle.name_inside.proofs.Over.{adds-alike, adds-both, adds-over}
 use Rattle.name_inside.proofs.gathering.+gathering.Goals as goal
-use Rattle.name_made_parts.proofs.AskedListing.{mapped}
 use Rattle.name_made_parts.proofs.Sourcing.{from-fields}
 use Rattle.name_meaning.specs.Froms.{first_item, from_all, in_clause, in_from, join_all, FromMeant, FromPart}
 use Rattle.std.proofs.lemmas.List.{take_all}
+use Rattle.perm_values.proofs.Lists.{map-taken}
 use Rattle.perm_values.proofs.Results.{when-ok, ok-anyway}
 use Rattle.sql_tree.specs.declared.source.FromTree.{out-FromTree}
 use Rattle.sql_tree.specs.declared.source.JoinStep.{JoinStep}
@@ -185,7 +185,7 @@ sources_inside-loop-tree-preserved t c =
     let around = c.args.around.now in
     let part = from_of around.catalog.now in
     subst (λ (parts : List FromPart). Adds (held_from (from_all (around_of around).outer parts) ∷ []) c.args.found.now c.from_inside.new.found)
-    (sym (mapped part c.args.trees.now c.loop-tree.tree-index c.tree-item.result c.loop-tree-test.true c.tree-item.is))
+    (sym (map-taken part c.args.trees.now c.loop-tree.tree-index c.tree-item.result c.loop-tree-test.true c.tree-item.is))
     (source-more (around_of around).outer (map part (take c.loop-tree.tree-index c.args.trees.now)) (part c.tree-item.result) c.args.found.now c.loop-tree.found
     c.from_inside.new.found c.loop-tree.invariant c.in_ok-from_inside.ensures)
 
