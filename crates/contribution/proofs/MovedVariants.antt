@@ -1,7 +1,8 @@
 -- Each variant of an expression is moved where its parts are.
-use Rattle.std.proofs.Common.{◌≡◌, ℕ, zero, suc, ◌≤◌, ◌+◌, ◌<◌, Bool, not, ◌&&◌, List, [], ◌∷◌, ◌++◌, length, Option, Some, None, refl, sym, ap, ◌∙◌, subst, arith, take, get_or}
+use Rattle.std.proofs.Common.{◌≡◌, ℕ, zero, suc, ◌≤◌, ◌+◌, ◌<◌, Bool, not, ◌&&◌, List, [], ◌∷◌, ◌++◌, length, Some, refl, sym, ap, ◌∙◌, subst, arith, take, get_or}
 use Rattle.std.specs.Prelude.{slice_get}
 use Rattle.std.proofs.lemmas.List.{take_more}
+use Rattle.std.proofs.lemmas.Option.{none-some}
 use mathlib.Core.Bool.{beq}
 use Rattle.null_logic.specs.Comparison.{is_null}
 use Rattle.null_logic.specs.declared.arith.Arith.{Arith}
@@ -51,12 +52,8 @@ picked-beyond [] place u beyond = refl
 picked-beyond (o ∷ order) zero u beyond = absurd (omega (arith, beyond))
 picked-beyond (o ∷ order) (suc place) u beyond = picked-beyond order place u (omega (arith, beyond))
 
-abbrev given : Option Kind → Type 0
-given None = Unit
-given (Some kind) = ⊥
-
 kinds-beyond : (kinds : List Kind) (order : List ℕ) (place : ℕ) (kind : Kind) → length order ≤ place → slice_get (kinds_in kinds order) place ≡ Some kind → ⊥
-kinds-beyond kinds [] place kind beyond e = subst given e tt
+kinds-beyond kinds [] place kind beyond e = none-some kind e
 kinds-beyond kinds (o ∷ order) zero kind beyond e = absurd (omega (arith, beyond))
 kinds-beyond kinds (o ∷ order) (suc place) kind beyond e = kinds-beyond kinds order place kind (omega (arith, beyond)) e
 

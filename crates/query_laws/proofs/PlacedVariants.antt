@@ -1,5 +1,6 @@
 -- Each variant of an expression is placed where its parts are.
-use Rattle.std.proofs.Common.{◌≡◌, ℕ, zero, suc, ◌≤◌, ◌-◌, ◌<◌, Bool, true, not, ◌&&◌, List, [], ◌∷◌, length, Option, Some, None, refl, sym, ap, ◌∙◌, subst, arith, get_or}
+use Rattle.std.proofs.Common.{◌≡◌, ℕ, zero, suc, ◌≤◌, ◌-◌, ◌<◌, Bool, true, not, ◌&&◌, List, [], ◌∷◌, length, Some, refl, sym, ap, ◌∙◌, subst, arith, get_or}
+use Rattle.std.proofs.lemmas.Option.{none-some}
 use Rattle.std.specs.Prelude.{slice_get}
 use mathlib.Core.Bool.{beq}
 use Rattle.null_logic.specs.Comparison.{is_null}
@@ -53,12 +54,8 @@ value-there (first ∷ items) x env t (suc place) item g within =
     let parts = both-is (λ v vs. v ∷ vs) (value first.expr x env []) (items_on items env no_subs x) t g in
     value-there items x env parts.1 place item parts.3 (omega (arith, within)) ∙ ap (λ row. Good (value_at row (suc place))) parts.4
 
-abbrev given : Option Kind → Type 0
-given None = Unit
-given (Some kind) = ⊥
-
-kinds-beyond : (items : List Item) (place : ℕ) (kind : Kind) → length items ≤ place → slice_get (item_kinds items) place ≡ Some kind → ⊥
-kinds-beyond [] place kind far e = subst given e tt
+pub kinds-beyond : (items : List Item) (place : ℕ) (kind : Kind) → length items ≤ place → slice_get (item_kinds items) place ≡ Some kind → ⊥
+kinds-beyond [] place kind far e = none-some kind e
 kinds-beyond (item ∷ items) zero kind far e = absurd (omega (arith, far))
 kinds-beyond (item ∷ items) (suc place) kind far e = kinds-beyond items place kind (omega (arith, far)) e
 

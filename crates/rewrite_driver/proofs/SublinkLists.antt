@@ -5,19 +5,13 @@ use Rattle.bag_algebra.specs.Rewriting.{IsRewrite}
 use Rattle.bag_algebra.specs.declared.query.Query.{Query}
 use Rattle.bag_algebra.specs.declared.query.Sublink.{Sublink}
 use Rattle.query_facts.proofs.AlikeRows.{all-first}
-use Rattle.query_laws.specs.Standing.{SubStands, SubsStand}
+use Rattle.query_laws.specs.Standing.{SubStands}
+use Rattle.query_laws.proofs.StandingSublinks.{stand-more}
 use Rattle.rewrite_core.specs.rewritings.OpenSublinks.{IsClosedSublink, NoOpenSublink}
 use Rattle.rewrite_driver.specs.KeptClosed.{RewritesClosed, SubsStandClosed, SubsTracedClosed}
 use Rattle.rewrite_move.proofs.ClosedMoves.{traced-closed}
 use Rattle.rewrite_move.specs.Moved.{SubsTraced}
 use Rattle.rewrite_move.specs.Traced.{traced_of}
-
-stand-more : (subs others : List Sublink) (sub other : Sublink) → SubsStand subs others → SubStands sub other →
-    SubsStand (subs ++ sub ∷ []) (others ++ other ∷ [])
-stand-more [] [] sub other s t = (t, tt)
-stand-more [] (another ∷ others) sub other s t = absurd s
-stand-more (first ∷ subs) [] sub other s t = absurd s
-stand-more (first ∷ subs) (another ∷ others) sub other s t = (s.0, stand-more subs others sub other s.1 t)
 
 rewritten-more : (subs : List Sublink) (rewritings : List Query) (sub : Sublink) (p : Query) → SubsTraced subs rewritings → IsRewrite (traced_of sub) p →
     SubsTraced (subs ++ sub ∷ []) (rewritings ++ p ∷ [])

@@ -51,7 +51,7 @@ pub contributes-given : (db : Database) (env : List Row) (b : Row) (sub : Sublin
 contributes-given db env b sub c (by_row x bag v operand good chosen list) = of_row v (in-from_contains c (witnesses sub.query db (b ∷ env) v) list)
 contributes-given db env b sub c (by_no_row good empty) = of_none good empty
 
-abbrev existing : Query → Sublink
+abbrev pub existing : Query → Sublink
 existing q = record { kind = Exists; tested = None; query = q }
 
 module _ (db : Database) (env : List Row) (b : Row) (sub : Sublink) (chooses : ChoosesAll sub.kind) (v : Value) (has : sublink_value db env b sub ≡ Good v) where

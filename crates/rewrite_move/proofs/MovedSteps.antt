@@ -39,6 +39,7 @@ use Rattle.query_laws.specs.Standing.{SubStands, SubsStand}
 use Rattle.rewrite_core.proofs.Itself.{stands-itself}
 use Rattle.rewrite_core.specs.rewritings.KeptColumns.{kept_places}
 use Rattle.rewrite_move.proofs.BelowGroups.{formed-below, shape-below}
+use Rattle.rewrite_move.proofs.Contributed.{existing}
 use Rattle.rewrite_move.proofs.Forcing.{Held, met-held}
 use Rattle.rewrite_move.proofs.KnownValues.{KnownValue, all_known_step, step-known}
 use Rattle.rewrite_move.proofs.MatchingSteps.{matching_step}
@@ -54,9 +55,6 @@ use Rattle.rewrite_sublink.proofs.FilterRows.{rewrite-Filter_given}
 use Rattle.rewrite_sublink.proofs.ProjectRows.{rewrite-Project_with}
 use Rattle.rewrite_sublink.proofs.Steps.{SubsFitting, OnRows, Step, StepGiven, Steps, StepsGiven}
 use Rattle.rewrite_sublink.specs.Candidates.{answer_columns, beside_row}
-
-abbrev existing : Query → Sublink
-existing q = record { kind = Exists; tested = None; query = q }
 
 -- without a left operand nothing is compared
 contributed-untested : (choice : Option Choice) (rows : Query) (stand : Sublink) (r : Query) → contributed_by choice None rows stand r ≡ all_beside rows stand r

@@ -142,10 +142,10 @@ stands-over q input below items slice made subs list originals slice_is list_is 
     subst (λ b. Stands (Project q items originals) (Project b made subs)) (sym (taken m.under m.lower [] m.is))
     (stands-merged q input items made subs originals s t (sym list_is ∙ found.0) m)
 
-first_same : (a b : Query) → a ∷ [] ≡ b ∷ [] → a ≡ b
-first_same a b e = cc
+pub one_same : (a b : Query) → a ∷ [] ≡ b ∷ [] → a ≡ b
+one_same a b e = cc
 
 -- a projection has one input
 pub same_input : (input other : Query) (items others : List Item) (subs more : List Sublink) → Project input items subs ≡ Project other others more → input ≡ other
 same_input input other items others subs more e =
-    first_same input other (sym (ap inputs_of (Project_with-is input items subs)) ∙ ap inputs_of e ∙ ap inputs_of (Project_with-is other others more))
+    one_same input other (sym (ap inputs_of (Project_with-is input items subs)) ∙ ap inputs_of e ∙ ap inputs_of (Project_with-is other others more))

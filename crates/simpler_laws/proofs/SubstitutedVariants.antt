@@ -34,7 +34,7 @@ use Rattle.bag_algebra.specs.declared.expr.Expr.TheVariants.{Col, Lit, Op, Chain
 use Rattle.bag_algebra.specs.declared.expr.Item.{Item}
 use Rattle.contribution.proofs.QueryKinds.{each-all}
 use Rattle.contribution.proofs.WhereGood.{Each}
-use Rattle.perm_values.proofs.Steps.{none_is_some}
+use Rattle.query_laws.proofs.PlacedVariants.{kinds-beyond}
 use Rattle.simpler_laws.specs.merged.Substituted.{row_of_items, IsSubstituted, PartsSubstituted, StepsSubstituted, ArmsSubstituted}
 
 -- ---- columns
@@ -75,15 +75,10 @@ beyond-value [] place u env subs beyond = refl
 beyond-value (item ∷ lower) zero u env subs beyond = absurd (omega (arith, beyond))
 beyond-value (item ∷ lower) (suc place) u env subs beyond = beyond-value lower place u env subs (omega (arith, beyond))
 
-beyond-kind : {A : Type 0} (lower : List Item) (place : ℕ) (kind : Kind) → length lower ≤ place → slice_get (item_kinds lower) place ≡ Some kind → A
-beyond-kind [] place kind beyond e = none_is_some e
-beyond-kind (item ∷ lower) zero kind beyond e = absurd (omega (arith, beyond))
-beyond-kind (item ∷ lower) (suc place) kind beyond e = beyond-kind lower place kind (omega (arith, beyond)) e
-
 pub substituted-none : (lower : List Item) (place : ℕ) → length lower ≤ place → IsSubstituted lower (Col 0 place) (Lit cell.Null Text)
 substituted-none lower place beyond = record {
   value = λ calm u env subs. ap Good (beyond-value lower place u env subs beyond);
-  kind = λ kinds outer subs kind form h. beyond-kind lower place kind beyond h;
+  kind = λ kinds outer subs kind form h. absurd (kinds-beyond lower place kind beyond h);
 }
 
 module _ (lower : List Item) where

@@ -2,7 +2,7 @@
 use Rattle.std.proofs.Common.{◌≡◌, ◌∙◌, ◌<◌, ◌^◌, ◌+◌, ◌%◌, ◌&&◌, ◌||◌, ℕ, ℤ, pos, negsuc, zero, suc, Bool, true, false, List, [], ◌∷◌, ◌++◌, refl, sym, subst, arith}
 use Rattle.std.specs.Prelude.{codes, nat_lt}
 use Rattle.std.specs.Fmt.{decimal}
-use Rattle.std.specs.List.{AllByRecursion, flat_map, list_all, range_with_len}
+use Rattle.std.specs.List.{AllByRecursion, flat_map, range_with_len}
 use Rattle.std.specs.Str.{IsAscii, IsUtf8, bytes_eq}
 use Rattle.std.proofs.lemmas.Bool.{ltb-true, and_parts}
 use Rattle.std.proofs.lemmas.Fmt.{IsAscii-decimal}
@@ -15,17 +15,13 @@ use Rattle.sql_lexer.specs.declared.token.TokenKind.TheVariants.{Word, Quoted, N
 use Rattle.sql_tree.specs.grammar.Grammar.{SqlRule}
 use Rattle.tree_texts.specs.plans.Plans.{Plan, Told, a_word, a_choice, a_token, before, behind, first, second, front_first, front_second, absent, present, no_more, one_more, one_last, at_start, as_symbol}
 use Rattle.tree_texts.specs.plans.Plans as plans
+use Rattle.tree_texts.proofs.Standing.{all_ascii}
 use Rattle.perm_engine.specs.meaning.generated.Generated.{big_row, big_rows, comma, generated, queries, small_rows, tables}
 use Rattle.perm_engine.proofs.meaning.generated.Parts.{more_rows}
 use Rattle.perm_engine.proofs.meaning.generated.Rows.{line}
 use Rattle.perm_engine.proofs.meaning.generated.ScriptPlan.{big_at, first_table, second_table, others, script}
 
 -- ---- ASCII
-
-all_ascii : (bytes : List ℕ) → list_all (λ b. nat_lt b 128) bytes ≡ true → IsAscii bytes
-all_ascii [] all i = omega arith
-all_ascii (b ∷ bytes) all zero = ltb-true b 128 (and_parts (nat_lt b 128) (list_all (λ b. nat_lt b 128) bytes) all).0
-all_ascii (b ∷ bytes) all (suc i) = all_ascii bytes (and_parts (nat_lt b 128) (list_all (λ b. nat_lt b 128) bytes) all).1 i
 
 row_ascii : (number : ℕ) → number < 2 ^ 64 → IsAscii (big_row number)
 row_ascii number fits =
