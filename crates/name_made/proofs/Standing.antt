@@ -6,6 +6,7 @@ use Rattle.bag_algebra.specs.declared.expr.Item.{Item}
 use Rattle.bag_algebra.specs.declared.query.Query.{Query}
 use Rattle.bag_algebra.specs.declared.query.Query.TheVariants.{Apply}
 use Rattle.sql_tree.specs.Regular.{is_lateral}
+use Rattle.name_meaning.proofs.Joins.{joins-behind}
 use Rattle.name_meaning.proofs.Lateral.{join-items}
 use Rattle.perm_catalog.specs.Contents.{Contents}
 use Rattle.perm_values.specs.declared.kind.Kind.{Kind}
@@ -21,10 +22,11 @@ use Rattle.name_meaning.specs.Trees.{from_item_of, from_of, item_of, join_of, pa
 use Rattle.name_meaning.specs.declared.scope.Scope.{Scope}
 use Rattle.name_made_nodes.specs.Listed.{MakesItems}
 use Rattle.name_made_nodes.specs.declared.within.Within.{Within}
+use Rattle.name_seen.proofs.FromTrees.{from-means}
 use Rattle.name_made_parts.specs.Cored.{items_meant}
 use Rattle.name_made_parts.specs.Sources.{JoinsMade, MakesBeside, MakesJoin, MakesOn, MakesSource, join_count, join_on_kept}
 use Rattle.name_made_parts.proofs.Coring.{next-listed}
-use Rattle.name_made_parts.proofs.Sourcing.{both-count, from-fields, join-fields, join-made, join-more, joins-append, lateral-made, one-item}
+use Rattle.name_made_parts.proofs.Sourcing.{both-count, join-fields, join-made, join-more, lateral-made, one-item}
 use Rattle.name_made_parts.specs.declared.asked.cores.Kept.{Kept}
 
 pub of-on : {X E : Type 0} (P Q : Type 0) (result : Result X E) → (P → Q) → OnOk result P → OnOk result Q
@@ -62,7 +64,7 @@ from-count c tree outer earlier items known =
     let first = first_item earlier ((from_item_of c (out-FromTree tree).first).means (in_from outer) earlier) in
     let steps = map (join_of c) (out-FromTree tree).joins in
     let all = joins-count outer first steps 1 (one-item ((from_item_of c (out-FromTree tree).first).means (in_from outer) earlier)) items
-    (ap (λ (m : FromMeant). m.items) (sym (from-fields c tree outer earlier)) ∙ known) in
+    (ap (λ (m : FromMeant). m.items) (sym (from-means c tree outer earlier)) ∙ known) in
     let size = length-map (out-FromTree tree).joins (join_of c) in
     omega (arith, all, size)
 
@@ -77,7 +79,7 @@ step-more c outer left joins i step first scope before after within is so_far ma
     let next : suc i ≡ i + 1 = omega arith in
     subst (λ (n : ℕ). JoinsMade (join_all outer left (map (join_of c) (take (i + 1) joins))) first scope after n) next
     (subst (λ (m : FromMeant). JoinsMade m first scope after (suc i))
-    (sym (ap (join_all outer left) (map-taken (join_of c) joins i step within is) ∙ joins-append outer left (map (join_of c) (take i joins)) (join_of c step)))
+    (sym (ap (join_all outer left) (map-taken (join_of c) joins i step within is) ∙ joins-behind outer left (map (join_of c) (take i joins)) (join_of c step)))
     (join-more outer (join_all outer left (map (join_of c) (take i joins))) (join_of c step) first i scope before after so_far makes))
 
 abbrev fields : Contents → JoinStep → JoinPart

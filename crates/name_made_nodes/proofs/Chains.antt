@@ -11,20 +11,6 @@ use Rattle.name_meaning.specs.Queries.{SetStepPart, columns_so_far, operand_brea
 use Rattle.name_made_nodes.specs.Chained.{Serves}
 use Rattle.name_made_nodes.specs.Makes.{MakesQuery}
 
-settled-twice : (known : Option Kind) (wanted : Kind) → settled known (settled known wanted) ≡ settled known wanted
-settled-twice None wanted = refl
-settled-twice (Some kind) wanted = refl
-
--- kinds at which columns are made stay so
-pub settle-twice : (columns : List OutColumn) (wanted : List Kind) → settle columns (settle columns wanted) ≡ settle columns wanted
-settle-twice [] wanted = refl
-settle-twice (column ∷ columns) [] =
-    ap (λ (k : Kind). k ∷ settle columns (settle columns [])) (settled-twice column.kind kind.Text)
-    ∙ ap (λ (ks : List Kind). settled column.kind kind.Text ∷ ks) (settle-twice columns [])
-settle-twice (column ∷ columns) (k ∷ ks) =
-    ap (λ (k : Kind). k ∷ settle columns (settle columns ks)) (settled-twice column.kind k)
-    ∙ ap (λ (ks : List Kind). settled column.kind k ∷ ks) (settle-twice columns ks)
-
 settled-first : (left right : Option Kind) (k : Kind) → settled (united_kind left right) k ≡ k → settled left k ≡ k
 settled-first None right k e = refl
 settled-first (Some kind) right k e = e

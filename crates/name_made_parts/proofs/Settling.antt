@@ -19,6 +19,7 @@ use Rattle.name_meaning.specs.Trees.{item_of}
 use Rattle.name_meaning.specs.declared.answer.Break.{Break}
 use Rattle.name_meaning.specs.declared.scope.Scope.{Scope}
 use Rattle.name_meaning.proofs.Equations.{SelectItemFrame}
+use Rattle.name_meaning.proofs.KindsOf.{with_known}
 use Rattle.name_made_parts.specs.Cored.{items_meant}
 use Rattle.name_meaning.proofs.Opened.{shown_item, opened_item}
 use Rattle.name_meaning.proofs.Settled.{settled-twice, settle_titles, settle-named, settle_titles-append}
@@ -86,13 +87,6 @@ pub record ListSettles (ms : List SelectMeant) : Type 0 where
   pub titles : List Titled
   pub are : all_known ms ≡ Some titles
   pub same : (w : List Kind) (n : Before) → made_items ms (settle_titles titles w) n ≡ made_items ms w n
-
--- the columns of an item before those of the items behind it
-abbrev with_known : Option (List Titled) → Option (List Titled) → Option (List Titled)
-with_known columns rest = elim columns [
-  | None ↦ None
-  | Some known ↦ option_map (λ more. known ++ more) rest
-]
 
 both-settle : (m : SelectMeant) (ms : List SelectMeant) (item : IsSettling m) (list : ListSettles ms) (w : List Kind) (n : Before)
     → made_items (m ∷ ms) (settle_titles (item.titles ++ list.titles) w) n ≡ made_items (m ∷ ms) w n

@@ -26,6 +26,7 @@ use Rattle.bag_algebra.specs.declared.query.Label.TheVariants.{Relation, Externa
 use Rattle.bag_algebra.specs.declared.query.Query.{Query}
 use Rattle.bag_algebra.specs.declared.query.Query.TheVariants.{Table, Base, Join}
 use Rattle.contribution.proofs.LongerKinds.{longer-names, well_formed-longer}
+use Rattle.contribution.specs.Conjunctions.{always}
 use Rattle.contribution.specs.Longer.{more_lists}
 use Rattle.perm_catalog.specs.Changes.{table_named, view_named}
 use Rattle.perm_catalog.specs.Columns.{column_kinds}
@@ -42,7 +43,7 @@ use Rattle.sql_tree.specs.declared.source.JoinWord.{JoinWord}
 use Rattle.sql_tree.specs.declared.source.JoinWord.TheVariants as word
 use Rattle.sql_tree.specs.declared.source.ScopeMark.{ScopeMark}
 use Rattle.sql_tree.specs.declared.source.ScopeMark.TheVariants as mark
-use Rattle.name_meaning.specs.Froms.{names_of, names_at, all_places, table_columns, settled_columns, named_columns, Read, external, read_table, read_view, read_nothing, read_named, read_query, named_so, place_of, column_breaks, attribute_breaks, texts_of, marked, mark_breaks, SourcePart, named as named_source, inner as inner_source, ItemMeant, FromItemPart, read_of, read_names, item_meant, in_on, FromMeant, JoinPart, FromPart, join_kind, scope_items, both_known, first_item, on_meant, optional_breaks, on_built, beside_items, in_from, joined, applied, join_item, joined_item, join_all, beside_from, from_more, from_all, yes}
+use Rattle.name_meaning.specs.Froms.{names_of, names_at, all_places, table_columns, settled_columns, named_columns, Read, external, read_table, read_view, read_nothing, read_named, read_query, named_so, place_of, column_breaks, attribute_breaks, texts_of, marked, mark_breaks, SourcePart, named as named_source, inner as inner_source, ItemMeant, FromItemPart, read_of, read_names, item_meant, in_on, FromMeant, JoinPart, FromPart, join_kind, scope_items, both_known, first_item, on_meant, optional_breaks, on_built, beside_items, in_from, joined, applied, join_item, joined_item, join_all, beside_from, from_more, from_all}
 use Rattle.name_meaning.specs.Meanings.{Around, Part, OutColumn, QueryMeant, broken_if, Built}
 use Rattle.name_meaning.specs.Scopes.{KnownColumn, ScopeItem, scope_of, numbered_columns, columns_from}
 use Rattle.name_meaning.specs.Sublinks.{nothing_before}
@@ -277,7 +278,7 @@ good-first outer earlier m good whole =
       formed = item.formed;
     }
 
-yes-holds : (rows : List (List Kind)) → HasKind rows [] yes Boolean
+yes-holds : (rows : List (List Kind)) → HasKind rows [] always Boolean
 yes-holds rows = record { fitting = refl; gives = refl }
 
 crossed-formed : (kind : JoinKind) (left right : Query) (condition : Expr) (rows : List (List Kind)) → WellFormed rows left → WellFormed rows right
@@ -291,7 +292,7 @@ joined-formed : (kind : JoinKind) (left right : Query) (outer : List Scope) (ite
     → RowsHold outer rows → WellFormed rows left → WellFormed rows right
     → WellFormed rows (Join kind left right (on_built (on_meant outer (Some items) condition)).expr (on_built (on_meant outer (Some items) condition)).subs)
 joined-formed kind left right outer items None rows good whole is hold f g =
-    crossed-formed kind left right yes rows f g (yes-holds ((kinds_of left ++ kinds_of right) ∷ rows))
+    crossed-formed kind left right always rows f g (yes-holds ((kinds_of left ++ kinds_of right) ∷ rows))
 joined-formed kind left right outer items (Some part) rows good whole is hold f g =
     let here = in_on items outer in
     let row : List Kind = kinds_of left ++ kinds_of right in
@@ -398,8 +399,8 @@ good-beside outer left right l r whole =
     record {
       items = a.items ++ b.items;
       known = λ i. both_known (a.known i) (b.known i);
-      kinds = kinds_of-Join join.Inner left.query right.query yes [] ∙ (λ i. a.kinds i ++ b.kinds i) ∙ sym (items_kinds-append a.items b.items);
-      formed = λ rows hold. crossed-formed join.Inner left.query right.query yes rows (a.formed rows hold) (b.formed rows hold) (yes-holds ((kinds_of left.query ++ kinds_of right.query) ∷ rows));
+      kinds = kinds_of-Join join.Inner left.query right.query always [] ∙ (λ i. a.kinds i ++ b.kinds i) ∙ sym (items_kinds-append a.items b.items);
+      formed = λ rows hold. crossed-formed join.Inner left.query right.query always rows (a.formed rows hold) (b.formed rows hold) (yes-holds ((kinds_of left.query ++ kinds_of right.query) ∷ rows));
     }
 
 good-more : (outer : List Scope) (left : FromMeant) (parts : List FromPart) → GoodFrom outer left → Every GoodFromPart parts

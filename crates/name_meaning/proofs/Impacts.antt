@@ -66,11 +66,11 @@ module _ (c : Contents) (sound : IsSound c) where
 
 -- ---- rules that are looked at where earlier ones aren't broken
 
-earlier-none : (earlier more : List Break) → cond (is_whole earlier) more earlier ≡ [] → earlier ≡ []
+pub earlier-none : (earlier more : List Break) → cond (is_whole earlier) more earlier ≡ [] → earlier ≡ []
 earlier-none [] more e = refl
 earlier-none (first ∷ rest) more e = e
 
-later-none : (earlier more : List Break) → cond (is_whole earlier) more earlier ≡ [] → more ≡ []
+pub later-none : (earlier more : List Break) → cond (is_whole earlier) more earlier ≡ [] → more ≡ []
 later-none [] more e = e
 later-none (first ∷ rest) more e = cc e
 

@@ -28,7 +28,8 @@ use Rattle.sql_tree.specs.declared.name.Name.{Name}
 use Rattle.sql_tree.specs.declared.source.JoinWord.{JoinWord}
 use Rattle.sql_tree.specs.declared.source.ScopeMark.{ScopeMark}
 use Rattle.sql_tree.specs.declared.source.ScopeMark.TheVariants as mark
-use Rattle.name_meaning.specs.Froms.{names_of, names_at, all_places, table_columns, settled_columns, named_columns, Read, external, read_table, read_view, read_nothing, read_named, read_query, named_so, place_of, texts_of, marked, mark_breaks, SourcePart, named as named_source, inner as inner_source, ItemMeant, FromItemPart, read_of, read_names, item_meant, FromMeant, JoinPart, FromPart, join_kind, scope_items, both_known, first_item, on_meant, optional_breaks, on_built, joined, applied, join_item, joined_around, joined_item, join_all, beside_from, from_more, from_all, yes, in_on}
+use Rattle.contribution.specs.Conjunctions.{always}
+use Rattle.name_meaning.specs.Froms.{names_of, names_at, all_places, table_columns, settled_columns, named_columns, Read, external, read_table, read_view, read_nothing, read_named, read_query, named_so, place_of, texts_of, marked, mark_breaks, SourcePart, named as named_source, inner as inner_source, ItemMeant, FromItemPart, read_of, read_names, item_meant, FromMeant, JoinPart, FromPart, join_kind, scope_items, both_known, first_item, on_meant, optional_breaks, on_built, joined, applied, join_item, joined_around, joined_item, join_all, beside_from, from_more, from_all, in_on}
 use Rattle.name_meaning.specs.Meanings.{Around, Meant, Part, OutColumn, QueryMeant, broken_if}
 use Rattle.name_meaning.specs.Scopes.{KnownColumn, ScopeItem}
 use Rattle.name_meaning.specs.declared.answer.Break.{Break}
@@ -266,11 +267,11 @@ module _ (c : Contents) where
         record {
           items = a.items ++ b.items;
           known = known-both left.items right.items a.items b.items a.known b.known;
-          kinds = kinds_of-Join join.Inner left.query right.query yes []
+          kinds = kinds_of-Join join.Inner left.query right.query always []
               ∙ (λ i. a.kinds i ++ b.kinds i)
               ∙ sym (items_kinds-append a.items b.items);
         };
-    named = λ sound. subst (λ (facts : Facts). AreNamed facts.places) (sym (facts-Join_alone join.Inner left.query right.query yes))
+    named = λ sound. subst (λ (facts : Facts). AreNamed facts.places) (sym (facts-Join_alone join.Inner left.query right.query always))
         (every-append IsNamed (shape left.query) (shape right.query) (l.named sound) (r.named sound));
   }
 

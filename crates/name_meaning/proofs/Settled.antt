@@ -4,16 +4,25 @@ use Rattle.std.proofs.Common.{refl, ap, ◌∙◌, arith, sym}
 use Rattle.perm_values.specs.declared.kind.Kind.{Kind}
 use Rattle.perm_values.specs.declared.kind.Kind.TheVariants as kind
 use Rattle.name_meaning.specs.Cores.{settle}
-use Rattle.name_meaning.specs.Froms.{named_columns}
+use Rattle.name_meaning.specs.Froms.{named_columns, names_of, settled_columns}
 use Rattle.name_meaning.specs.Items.{Titled, named_from}
 use Rattle.name_meaning.specs.Meanings.{OutColumn, settled, united_kind, unites}
 use Rattle.name_meaning.specs.Queries.{out_column, united_columns}
 use Rattle.name_meaning.specs.Scopes.{KnownColumn}
+use Rattle.name_meaning.specs.laws.Known.{column_kinds_of}
 use Rattle.name_meaning.proofs.Needs.{same_kind}
 
 pub settled-twice : (k : Option Kind) (wanted : Kind) → settled k (settled k wanted) ≡ settled k wanted
 settled-twice None wanted = refl
 settled-twice (Some k) wanted = refl
+
+pub settled-kinds : (columns : List OutColumn) → settle columns [] ≡ column_kinds_of (settled_columns columns)
+settled-kinds [] = refl
+settled-kinds (column ∷ columns) = ap (λ (kinds : List Kind). settled column.kind kind.Text ∷ kinds) (settled-kinds columns)
+
+pub settled-names : (columns : List OutColumn) → length (names_of (settled_columns columns)) ≡ length columns
+settled-names [] = refl
+settled-names (column ∷ columns) = ap suc (settled-names columns)
 
 pub settled-united : (k other : Option Kind) (wanted : Kind) → settled k (settled (united_kind k other) wanted) ≡ settled (united_kind k other) wanted
 settled-united None other wanted = refl

@@ -1,8 +1,7 @@
 -- The names that expressions give to columns.
-use Rattle.std.specs.Prelude.{◌≡◌, ℕ, IfOk, List, Option, Some, None, Result}
-use Rattle.std.proofs.Common.{refl, ap, sym, subst, ◌∙◌}
+use Rattle.std.specs.Prelude.{◌≡◌, ℕ, List, Option, Some, None}
+use Rattle.std.proofs.Common.{refl, ap, sym, ◌∙◌}
 use Rattle.perm_catalog.specs.Contents.{Contents}
-use Rattle.perm_values.specs.declared.no_memory.NoMemory.{NoMemory}
 use Rattle.sql_tree.specs.declared.expression.AggWord.{AggWord}
 use Rattle.sql_tree.specs.declared.expression.ArmTree.{ArmTree}
 use Rattle.sql_tree.specs.declared.expression.ExprBody.{ExprBody, out-ExprBody, roll-ExprBody}
@@ -111,6 +110,3 @@ called-aggregate c position tree word argument is =
       by-argument : (argument : Option ExprTree) → (body_of c (e.Aggregate word argument)).called ≡ Some (aggregate_name word)
       by-argument None = ap (λ (b : Body). b.called) (exprbody-aggregate-none c word)
       by-argument (Some part) = ap (λ (b : Body). b.called) (exprbody-aggregate-some c word part)
-
-pub named-so : (result : Result (List ℕ) NoMemory) (a b : List ℕ) → b ≡ a → IfOk result (λ name. name ≡ a) → IfOk result (λ name. name ≡ b)
-named-so result a b e named = subst (λ (text : List ℕ). IfOk result (λ name. name ≡ text)) (sym e) named

@@ -31,12 +31,13 @@ use Rattle.name_meaning.specs.Scopes.{KnownColumn}
 use Rattle.name_meaning.specs.Statements.{alone, columns_of, has_boolean, name_breaks, named_query_breaks, query_meant, repeats, stored_columns, taken}
 use Rattle.name_meaning.specs.Trees.{set_of_tree}
 use Rattle.name_meaning.specs.declared.rule.Rule.TheVariants as rule
+use Rattle.name_meaning.proofs.Every.{unbroken-not}
 use Rattle.name_meaning.proofs.KindsOf.{kinds-settled_columns}
 use Rattle.name_meaning.proofs.TreeLaws.{query-answer, query-closed, query-wide}
 use Rattle.name_meaning.proofs.Trees.{query-known}
 use Rattle.name_meaning.specs.laws.Formed.{IsAnswer}
 use Rattle.name_meaning.specs.laws.Known.{HasItsKinds, column_kinds_of}
-use Rattle.statement_meaning.proofs.Ready.{named-whole, query-whole, tables-held, unbroken}
+use Rattle.statement_meaning.proofs.Ready.{named-whole, query-whole, tables-held}
 use Rattle.statement_meaning.proofs.Words.{opened}
 use Rattle.statement_meaning.specs.laws.Sounder.{AddsAnswer, AsksAt}
 
@@ -143,10 +144,10 @@ module _ (c : Contents) (sound : IsSound c) (table : Name) (tree : QueryTree) (r
     some = some-stored columns (subst (λ (n : ℕ). 0 < n) wide (query-wide c tree alone sound regular query_none []));
     named = subst (IsDistinct (pointwise nat_eq)) (sym (names-stored (columns_of m)))
         (differ-unrepeated (names_of (columns_of m))
-        (unbroken (repeats (names_of (columns_of m))) rule.RepeatedColumn tree.at
+        (unbroken-not (repeats (names_of (columns_of m))) rule.RepeatedColumn tree.at
         (back-none m.breaks (broken_if (repeats (names_of (columns_of m))) rule.RepeatedColumn tree.at) named)));
     stored = none-boolean (columns_of m)
-        (unbroken (has_boolean (columns_of m)) rule.UnfitKind tree.at
+        (unbroken-not (has_boolean (columns_of m)) rule.UnfitKind tree.at
         (back-none (taken c table ++ named_query_breaks tree.at m) (broken_if (has_boolean (columns_of m)) rule.UnfitKind tree.at) whole));
   }
 

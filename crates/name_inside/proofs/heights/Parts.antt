@@ -24,10 +24,11 @@ use Rattle.sql_tree.specs.declared.source.FromSource.TheVariants as source
 use Rattle.sql_tree.specs.declared.source.FromTree.{FromTree}
 use Rattle.sql_tree.specs.declared.source.JoinStep.{JoinStep, out-JoinStep}
 use Rattle.sql_tree.specs.declared.source.ScopeMark.{ScopeMark}
+use Rattle.contribution.specs.Conjunctions.{always}
 use Rattle.name_meaning.proofs.Equations.{token, fromsource-inner}
 use Rattle.name_meaning.proofs.Opened.{core-is, opened_from_item}
 use Rattle.name_meaning.specs.Cores.{BodyPart, Clauses, before_list, clause_breaks, core_clauses, core_over, core_seen, core_unlooked, group_break, group_scope, has_some, list_columns, optional_built, settle_known, word_breaks}
-use Rattle.name_meaning.specs.Froms.{FromItemPart, FromMeant, FromPart, ItemMeant, JoinPart, SourcePart, applied, beside_from, both_known, first_item, from_all, in_clause, in_from, in_on, item_meant, join_all, join_item, join_kind, joined_item, label_of, names_of, on_built, on_meant, optional_breaks, optional_meant, read_names, read_of, read_query, scope_items, scope_name, settled_columns, yes}
+use Rattle.name_meaning.specs.Froms.{FromItemPart, FromMeant, FromPart, ItemMeant, JoinPart, SourcePart, applied, beside_from, both_known, first_item, from_all, in_clause, in_from, in_on, item_meant, join_all, join_item, join_kind, joined_item, label_of, names_of, on_built, on_meant, optional_breaks, optional_meant, read_names, read_of, read_query, scope_items, scope_name, settled_columns}
 use Rattle.name_meaning.specs.Items.{SelectPart, items_breaks, made_items}
 use Rattle.name_meaning.specs.Meanings.{Around, Meant, OutColumn, Part, QueryMeant, is_whole, query_means_at}
 use Rattle.name_meaning.specs.Queries.{SetStepPart, asks_provenance, columns_so_far, keys_breaks, keys_of, limited, may_not_ask, operand_breaks, plain_query, query_seen, query_with_provenance, set_chain, set_joined}
@@ -35,10 +36,11 @@ use Rattle.name_meaning.specs.Scopes.{KnownColumn, ScopeItem, scope_of}
 use Rattle.name_meaning.specs.Trees.{core_of, from_item_of, from_of, item_of, join_of, part_of, query_of, set_of_tree, set_step_of, source_of}
 use Rattle.name_meaning.specs.declared.scope.Scope.{Scope}
 use Rattle.name_meaning.proofs.Every.{none-whole, whole-none}
+use Rattle.name_meaning.proofs.Joins.{joins-behind}
 use Rattle.name_meaning.proofs.Lateral.{join-lateral, join-plain, lateral_item, plain_item, plainly}
 use Rattle.name_meaning.proofs.Trees.{item-known}
 use Rattle.name_meaning.specs.laws.Known.{ItemIsKnown}
-use Rattle.name_made_parts.proofs.Sourcing.{join-fields, joins-append}
+use Rattle.name_made_parts.proofs.Sourcing.{join-fields}
 use Rattle.name_made_parts.specs.Cored.{items_meant}
 use Rattle.name_seen_cores.proofs.Opened.{chain-means, paren-means, query-means, set-is, step-operand}
 use Rattle.name_seen_cores.proofs.Queried.{chain-behind}
@@ -303,7 +305,7 @@ pub joins-high : (c : Contents) (outer : List Scope) (left : FromMeant) (joins :
     → FromHigh n (join_all outer left (map (join_of c) (take (i + 1) joins)))
 joins-high c outer left joins i step n within is high =
     subst (FromHigh n) (sym (ap (join_all outer left) (map-taken (join_of c) joins i step within is)
-    ∙ joins-append outer left (map (join_of c) (take i joins)) (join_of c step))) high
+    ∙ joins-behind outer left (map (join_of c) (take i joins)) (join_of c step))) high
 
 -- ---- sources
 
@@ -314,7 +316,7 @@ beside-high n a b left right within one two none =
     record {
       items = first.items ++ second.items;
       known = λ i. both_known (first.known i) (second.known i);
-      high = omega (arith, within, first.high, second.high, height-Join join.Inner left.query right.query yes []);
+      high = omega (arith, within, first.high, second.high, height-Join join.Inner left.query right.query always []);
     }
 
 less-high : (n b : ℕ) (m : FromMeant) → n ≤ b → FromHigh b m → FromHigh n m

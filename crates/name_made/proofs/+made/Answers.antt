@@ -44,8 +44,9 @@ use Rattle.name_made_nodes.specs.Cored.{clauses_over}
 use Rattle.name_made_nodes.proofs.ItemLists.{value-listed}
 use Rattle.name_made_parts.specs.Cored.{Keeps, MakesClauses, MakesList, having_part, kept_of, select_parts, sources_meant}
 use Rattle.name_made_parts.specs.Sources.{JoinsMade, MakesSource, SourcesMade, join_count}
-use Rattle.name_made_parts.proofs.Sourcing.{first-made, from-fields, item-inner, item-named, no-sources, own-stands, source-more, sources-made}
+use Rattle.name_made_parts.proofs.Sourcing.{first-made, item-inner, item-named, no-sources, own-stands, source-more, sources-made}
 use Rattle.bag_algebra.specs.declared.query.Query.{Query}
+use Rattle.name_seen.proofs.FromTrees.{from-means}
 use Rattle.name_made.proofs.Chaining.{ChainMade, chain-step}
 use Rattle.name_made.proofs.Standing.{from-count, items-more, of-on, step-more, tree-join, tree-lateral}
 use Rattle.name_made.proofs.OfResults.{from-one, of-beside, of-both, of-both-is, of-one, of-one-is, of-three-is}
@@ -563,7 +564,7 @@ sources::source_made-returns t c = λ earlier whole stands.
     let all = rw c.as_slice-step-items.ensures at c.loop-place-test.false in
     let made = subst (λ (m : FromMeant). JoinsMade m c.args.first c.args.scope.now c.loop-place.whole c.loop-place.place)
     (ap (λ (steps : List JoinStep). join_all outer (first_item earlier first) (map (join_of around.catalog.now) steps)) (take_all c.loop-place.place (out-FromTree tree).joins all)
-    ∙ sym (from-fields around.catalog.now tree outer earlier)) (c.loop-place.invariant earlier) in
+    ∙ sym (from-means around.catalog.now tree outer earlier)) (c.loop-place.invariant earlier) in
     made.makes whole stands
 
 pub cores::condition_made-returns-in-None : goal.cores::condition_made-returns-in-None

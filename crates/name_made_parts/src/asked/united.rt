@@ -8,8 +8,8 @@ ghost use Rattle.name_meaning.specs.Sublinks.{around_of, first_kind, in_tested, 
 ghost use Rattle.name_meaning.specs.Trees.{arm_of, part_of, query_of};
 ghost use Rattle.name_meaning.specs.declared.need.Need.TheVariants.{Alike};
 ghost use Rattle.name_seen_parts.specs.Standing.{surroundings};
-ghost use Rattle.name_made_parts.specs.AskedColumns.{kind_of_first};
 ghost use Rattle.perm_catalog.specs.Sound.{IsSound};
+ghost use Rattle.name_seen_cores.specs.Inner.{kind_of_first};
 
 use name_made_nodes::alike_wanted;
 use name_meaning::{Gives, Need, settled};

@@ -22,6 +22,7 @@ use Rattle.name_meaning.specs.declared.need.Gives.{Gives}
 use Rattle.name_meaning.specs.declared.need.Gives.TheVariants.{Common as common}
 use Rattle.name_meaning.specs.declared.need.Need.TheVariants.{Alike as alike, OfKind as of_kind}
 use Rattle.name_meaning.proofs.Forms.{means-null, means-nullof, means-integer, means-text, means-truth, means-column, means-paren, means-nots, means-signs, means-logic, means-chain, means-compared, means-like, means-between, means-inlist, means-isnull, means-istruth, means-isdistinct, means-coalesce, means-exists, means-inquery, means-nullif, means-quantified, means-scalar}
+use Rattle.name_meaning.proofs.Joins.{joins-behind}
 use Rattle.name_seen_parts.specs.Named.{scopes_of}
 use Rattle.name_seen_parts.specs.Standing.{surroundings, around_beside, around_in_from}
 use Rattle.name_seen_cores.specs.Expressed.{ExpressionSeen, OperandsBehind, kind_over}
@@ -62,7 +63,7 @@ use Rattle.name_seen_cores.specs.from.Readings.{ItemAdded, ItemSeen, ReadSeen}
 use Rattle.name_seen.proofs.Conditions.{some-condition}
 use Rattle.name_seen.proofs.CoreSteps.{core-answered, from-answered, from-refused, groups-refused, has-from, having-refused, where-refused, word-refused}
 use Rattle.name_seen.proofs.FromTrees.{from-means, inner-read, item-refused, item-means, joined-condition, joined-item, joined-word, lateral-means, named-read, read-refused}
-use Rattle.name_seen.proofs.Joined.{first-refused, first-whole, join-behind, join-refused, joins-behind, lateral-seen, never-if_ok, never-ok, none-held, nothing-read, source-refused, step-refused}
+use Rattle.name_seen.proofs.Joined.{first-refused, first-whole, join-behind, join-refused, lateral-seen, never-if_ok, never-ok, none-held, nothing-read, source-refused, step-refused}
 use Rattle.name_meaning.proofs.Lateral.{join-lateral, join-plain, lateral_item, plain_item}
 use Rattle.sql_tree.specs.Regular.{is_lateral}
 use Rattle.name_seen.specs.Joining.{JoinSeen}

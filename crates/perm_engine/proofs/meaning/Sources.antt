@@ -16,7 +16,7 @@ use Rattle.sql_tree.specs.declared.statement.StatementBody.TheVariants as st
 use Rattle.name_meaning.proofs.Equations.{token, querytree-record, settree-chain, settree-core}
 use Rattle.name_meaning.proofs.Opened.{Layer_core, opened_core, shown_core}
 use Rattle.name_meaning.specs.Cores.{BodyPart, core_step}
-use Rattle.name_meaning.specs.Froms.{external, names_of, read_names, read_query, read_view, settled_columns}
+use Rattle.name_meaning.specs.Froms.{external, names_of, read_names, read_query, read_view, settled_columns, in_from}
 use Rattle.name_meaning.specs.Meanings.{Around, OutColumn, QueryMeant, QueryPart, query_means_at}
 use Rattle.name_meaning.specs.Queries.{count_columns, keys_breaks, keys_of, limited, plain_query, provenance_places, query_seen, query_with_provenance, set_chain}
 use Rattle.name_meaning.specs.Statements.{breaks, name_breaks, named_query_breaks, query_meant, resolved, resolved_body, taken, view_entry}
@@ -27,7 +27,7 @@ use Rattle.statement_meaning.proofs.Ready.{names-whole, query-whole}
 use Rattle.statement_meaning.proofs.Words.{no_word}
 use Rattle.statement_meaning.specs.laws.Asks.{HasWord, WithoutWord, plain_core, plain_first, with_body}
 use Rattle.perm_engine.proofs.meaning.Lacking.{word-at}
-use Rattle.perm_engine.specs.meaning.headline.Sources.{IsOverProvenance, KeepsProvenance, in_from, subquery}
+use Rattle.perm_engine.specs.meaning.headline.Sources.{IsOverProvenance, KeepsProvenance, subquery}
 
 module _ (c : Contents) (outer : List Scope) where
   abbrev own : Around

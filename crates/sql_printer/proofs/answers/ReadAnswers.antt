@@ -14,7 +14,7 @@ use Rattle.perm_catalog.specs.Contents.{Contents}
 use Rattle.sql_tree.specs.declared.query.Core.{Core}
 use Rattle.sql_tree.specs.declared.query.QueryTree.{QueryTree}
 use Rattle.sql_tree.specs.declared.query.SelectItem.{SelectItem}
-use Rattle.name_meaning.specs.Froms.{in_clause, names_of, settled_columns}
+use Rattle.name_meaning.specs.Froms.{in_clause, names_of, settled_columns, named_columns}
 use Rattle.name_meaning.specs.Meanings.{Surroundings, query_means_at}
 use Rattle.name_meaning.specs.Scopes.{scope_of}
 use Rattle.name_meaning.specs.Statements.{alone, columns_of, query_meant}
@@ -32,7 +32,7 @@ use Rattle.sql_printer.specs.answers.ReadAs.{IsNamed, IsReadAs, Narrow, source_i
 use Rattle.sql_printer.proofs.expressions.PlainTrees.{plain-tree}
 use Rattle.sql_printer.specs.expressions.Reading.{Finds}
 use Rattle.sql_printer.proofs.cores.ReadBlocks.{select-read}
-use Rattle.sql_printer.proofs.cores.ReadFroms.{columns-settled, known_columns}
+use Rattle.sql_printer.proofs.cores.ReadFroms.{columns-settled}
 use Rattle.sql_printer.proofs.expressions.ReadLeaves.{column-read}
 use Rattle.sql_printer.proofs.cores.ReadLists.{ListRead, item-read, no_items-read}
 use Rattle.sql_printer.specs.cores.Queries.{out_columns}
@@ -63,7 +63,7 @@ module _ (c : Contents) (has_from : Bool) (scope : Scope) (here : Surroundings) 
       (λ n. columns_from (suc (before (front ∷ []) 0 + place)) all) [] [] 0 d (λ tree e. plain-tree c tt e)
       (λ tree e. column-read c here (marks 1) (own ∷ []) (front ∷ []) finds outside 0 place kind (sym (ap (slice_get own) at_place) ∙ kinds_are 0 kind refl) e) others refl
 
-names-known : (names : List (List ℕ)) (all : List Kind) → length names ≡ length all → names_of (known_columns names all) ≡ names
+names-known : (names : List (List ℕ)) (all : List Kind) → length names ≡ length all → names_of (named_columns names all) ≡ names
 names-known [] all same = refl
 names-known (name ∷ names) [] same = absurd (omega (arith, same))
 names-known (name ∷ names) (kind ∷ all) same = ap (λ more. name ∷ more) (names-known names all (omega (arith, same)))
@@ -115,7 +115,7 @@ module _ (c : Contents) (tables : List TableNames) (q : Query) (kind : Kind) (mo
       let all = name ∷ names in
       let r = one-read c keys None alone all own (printed_answer (source_in c tables) q) (subst (λ n. KeysWithin n keys) (sym (wide all own same)) within) d
       (λ core e. core-called name names same core e) in
-      let known : columns_of (query_meant c tree) ≡ known_columns all own = ap (λ columns. option_map_or settled_columns columns []) r.0.columns ∙ columns-settled all own in
+      let known : columns_of (query_meant c tree) ≡ named_columns all own = ap (λ columns. option_map_or settled_columns columns []) r.0.columns ∙ columns-settled all own in
       record {
         whole = r.0.breaks;
         same = λ i. record { query = r.0.make [] i; names = (ap names_of known ∙ names-known all own same) i; keys = r.1 i };

@@ -13,13 +13,13 @@ use Rattle.name_inside.proofs.Cores.{chain-stands, clauses-adds, core-adds, core
 use Rattle.name_inside.proofs.Gone.{flat-more, mapped-more}
 use Rattle.name_inside.proofs.Over.{adds-alike, adds-both, adds-over}
 use Rattle.name_inside.proofs.gathering.+gathering.Goals as goal
-use Rattle.name_made_parts.proofs.Sourcing.{from-fields}
 use Rattle.name_meaning.specs.Froms.{first_item, from_all, in_clause, in_from, join_all, FromMeant, FromPart}
 use Rattle.std.proofs.lemmas.List.{take_all}
 use Rattle.perm_values.proofs.Lists.{map-taken}
 use Rattle.perm_values.proofs.Results.{when-ok, ok-anyway}
 use Rattle.sql_tree.specs.declared.source.FromTree.{out-FromTree}
 use Rattle.sql_tree.specs.declared.source.JoinStep.{JoinStep}
+use Rattle.name_seen.proofs.FromTrees.{from-means}
 
 pub expression_inside-returns-in-Null : goal.expression_inside-returns-in-Null
 expression_inside-returns-in-Null t c =
@@ -218,7 +218,7 @@ from_inside-returns t c = λ names.
     let all = rw c.as_slice-step-items.ensures at c.loop-step-test.false in
     subst (λ (m : FromMeant). Adds (held_from m ∷ []) c.args.found.now c.loop-step.found)
     (ap (λ (steps : List JoinStep). join_all outer (first_item names first) (map (join_of around.catalog.now) steps)) (take_all c.loop-step.step-index joins all)
-    ∙ sym (from-fields around.catalog.now tree outer names)) (c.loop-step.invariant names).adds
+    ∙ sym (from-means around.catalog.now tree outer names)) (c.loop-step.invariant names).adds
 
 pub join_inside-returns-then-is_lateral : goal.join_inside-returns-then-is_lateral
 join_inside-returns-then-is_lateral t c =
