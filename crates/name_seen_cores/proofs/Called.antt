@@ -2,6 +2,7 @@
 use Rattle.std.specs.Prelude.{◌≡◌, ℕ, List, Option, Some, None}
 use Rattle.std.proofs.Common.{refl, ap, sym, ◌∙◌}
 use Rattle.perm_catalog.specs.Contents.{Contents}
+use Rattle.sql_tree.specs.Regular.{BodyLayer}
 use Rattle.sql_tree.specs.declared.expression.AggWord.{AggWord}
 use Rattle.sql_tree.specs.declared.expression.ArmTree.{ArmTree}
 use Rattle.sql_tree.specs.declared.expression.ExprBody.{ExprBody, out-ExprBody, roll-ExprBody}
@@ -32,10 +33,7 @@ use Rattle.name_meaning.specs.Trees.{body_of, item_of, set_of_tree, source_of, a
 use Rattle.name_meaning.proofs.Equations.{ExprBodyFrame, token, exprbody-aggregate-none, exprbody-aggregate-some, exprbody-column, exprbody-paren, exprtree-record}
 use Rattle.name_seen_cores.specs.Shown.{called_at, name_or}
 
-abbrev Layer : Type 0
-Layer = ExprBody-F ExprBody SelectItem SetTree FromSource ArmTree ExprStep ExprTree Core QueryTree SetStep FromItem FromTree JoinStep
-
-abbrev seen_layer : Contents → Layer → ExprBodyFrame
+abbrev seen_layer : Contents → BodyLayer → ExprBodyFrame
 seen_layer c layer = map-ExprBody ExprBody SelectItem SetTree FromSource ArmTree ExprStep ExprTree Core QueryTree SetStep FromItem FromTree JoinStep
     Body SelectPart BodyPart SourcePart ArmPart StepPart Part BodyPart QueryPart SetStepPart FromItemPart FromPart JoinPart
     (body_of c) (item_of c) (set_of_tree c) (source_of c) (arm_of c) (step_of c) (part_of c) (core_of c) (query_of c) (set_step_of c) (from_item_of c) (from_of c) (join_of c) layer
@@ -48,10 +46,10 @@ body-is c body = ap (body_of c) (sym (roll-out-ExprBody body)) ∙ fold-roll-Exp
 no-name : (c : Contents) (body : ExprBody) → ((r : ColRef) → body ≡ e.Column r → ⊥) → ((p : ExprTree) → body ≡ e.Paren p → ⊥)
     → ((w : AggWord) (o : Option ExprTree) → body ≡ e.Aggregate w o → ⊥) → (body_of c body).called ≡ None
 no-name c body no_column no_paren no_aggregate = ap (λ (b : Body). b.called) (body-is c body) ∙ by-layer (out-ExprBody body) refl where
-  rolled : (layer : Layer) → out-ExprBody body ≡ layer → body ≡ roll-ExprBody layer
+  rolled : (layer : BodyLayer) → out-ExprBody body ≡ layer → body ≡ roll-ExprBody layer
   rolled layer is = sym (roll-out-ExprBody body) ∙ ap roll-ExprBody is
 
-  by-layer : (layer : Layer) → out-ExprBody body ≡ layer → (body_step (seen_layer c layer)).called ≡ None
+  by-layer : (layer : BodyLayer) → out-ExprBody body ≡ layer → (body_step (seen_layer c layer)).called ≡ None
   by-layer ExprBody-F.Null is = refl
   by-layer (ExprBody-F.NullOf k) is = refl
   by-layer (ExprBody-F.Integer n) is = refl

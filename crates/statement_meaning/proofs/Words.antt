@@ -11,7 +11,6 @@ use Rattle.perm_catalog.specs.Sound.{IsSound}
 use Rattle.sql_tree.specs.declared.expression.ArmTree.{ArmTree}
 use Rattle.sql_tree.specs.declared.expression.ExprBody.{ExprBody}
 use Rattle.sql_tree.specs.declared.expression.ExprBody.TheFolds.{fold-roll-Core, map-Core}
-use Rattle.sql_tree.specs.declared.expression.ExprBody.TheOpen.{Core-F}
 use Rattle.sql_tree.specs.declared.expression.ExprBody.TheViews.{out-roll-Core, roll-out-Core}
 use Rattle.sql_tree.specs.declared.expression.ExprStep.{ExprStep}
 use Rattle.sql_tree.specs.declared.expression.ExprTree.{ExprTree}
@@ -29,6 +28,7 @@ use Rattle.sql_tree.specs.declared.statement.Statement.{Statement}
 use Rattle.sql_tree.specs.declared.statement.StatementBody.{StatementBody}
 use Rattle.sql_tree.specs.declared.statement.StatementBody.TheVariants as st
 use Rattle.name_meaning.proofs.Equations.{CoreFrame, token, querytree-record, settree-core, settree-chain}
+use Rattle.name_meaning.proofs.Opened.{CoreLayer}
 use Rattle.name_meaning.specs.Cores.{BodyPart, core_step}
 use Rattle.name_meaning.specs.Expressions.{Body, StepPart, ArmPart, body_step, arm_step, step_step, expr_step}
 use Rattle.name_meaning.specs.Froms.{SourcePart, FromItemPart, FromPart, JoinPart, source_step, from_item_step, from_step, join_step, names_of, settled_columns}
@@ -45,11 +45,7 @@ use Rattle.statement_meaning.specs.laws.Asks.{AsksFor, HasWord, IsResolved, With
 
 -- ---- the word, from the tree
 
--- a core's step, its parts seen
-abbrev core_layer : Type 0
-core_layer = Core-F ExprBody SelectItem SetTree FromSource ArmTree ExprStep ExprTree Core QueryTree SetStep FromItem FromTree JoinStep
-
-abbrev core_shown : Contents → core_layer → CoreFrame
+abbrev core_shown : Contents → CoreLayer → CoreFrame
 core_shown c layer = map-Core ExprBody SelectItem SetTree FromSource ArmTree ExprStep ExprTree Core QueryTree SetStep FromItem FromTree JoinStep
     Body SelectPart BodyPart SourcePart ArmPart StepPart Part BodyPart QueryPart SetStepPart FromItemPart FromPart JoinPart
     (body_of c) (item_of c) (set_of_tree c) (source_of c) (arm_of c) (step_of c) (part_of c) (core_of c) (query_of c) (set_step_of c) (from_item_of c) (from_of c) (join_of c) layer
@@ -71,7 +67,7 @@ word-at c at tree (in_first first steps h) = ap (λ (part : BodyPart). part.word
 
 pub without-word : (at : ℕ) (tree : SetTree) → HasWord at tree → (plain : SetTree) × WithoutWord tree plain
 without-word at tree (in_core core e) =
-    let layer : core_layer = record (out-Core core) { provenance = None } in
+    let layer : CoreLayer = record (out-Core core) { provenance = None } in
     (set.Core (roll-Core layer), plain_core core (roll-Core layer) (out-roll-Core layer))
 without-word at tree (in_first first steps h) =
     let plain = without-word at first h in
@@ -80,12 +76,12 @@ without-word at tree (in_first first steps h) =
 pub no_word : (c : Contents) (tree plain : SetTree) → WithoutWord tree plain → (set_of_tree c plain).word ≡ None
 unfolding token
 no_word c tree plain (plain_core core other e) =
-    ap (λ (part : BodyPart). part.word) (settree-core c other) ∙ core-word c other ∙ ap (λ (layer : core_layer). layer.provenance) e
+    ap (λ (part : BodyPart). part.word) (settree-core c other) ∙ core-word c other ∙ ap (λ (layer : CoreLayer). layer.provenance) e
 no_word c tree plain (plain_first first other steps h) =
     ap (λ (part : BodyPart). part.word) (settree-chain c other steps) ∙ no_word c first other h
 
 -- at the front of a whole query the word is no break
-wordless : (c : Contents) (layer : core_layer) → (core_step (core_shown c layer)).means alone ≡ (core_step (core_shown c (record layer { provenance = None }))).means alone
+wordless : (c : Contents) (layer : CoreLayer) → (core_step (core_shown c layer)).means alone ≡ (core_step (core_shown c (record layer { provenance = None }))).means alone
 wordless c layer = refl
 
 same-without : (c : Contents) (tree plain : SetTree) → WithoutWord tree plain → (set_of_tree c tree).means alone ≡ (set_of_tree c plain).means alone
@@ -93,7 +89,7 @@ unfolding token
 same-without c tree plain (plain_core core other e) =
     ap (λ (part : BodyPart). part.means alone) (settree-core c core ∙ core-opened c core)
     ∙ wordless c (out-Core core)
-    ∙ ap (λ (layer : core_layer). (core_step (core_shown c layer)).means alone) (sym e)
+    ∙ ap (λ (layer : CoreLayer). (core_step (core_shown c layer)).means alone) (sym e)
     ∙ sym (ap (λ (part : BodyPart). part.means alone) (settree-core c other ∙ core-opened c other))
 same-without c tree plain (plain_first first other steps h) =
     ap (λ (part : BodyPart). part.means alone) (settree-chain c first steps)

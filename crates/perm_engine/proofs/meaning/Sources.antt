@@ -14,7 +14,7 @@ use Rattle.sql_tree.specs.declared.statement.Statement.{Statement}
 use Rattle.sql_tree.specs.declared.statement.StatementBody.{StatementBody}
 use Rattle.sql_tree.specs.declared.statement.StatementBody.TheVariants as st
 use Rattle.name_meaning.proofs.Equations.{token, querytree-record, settree-chain, settree-core}
-use Rattle.name_meaning.proofs.Opened.{Layer_core, opened_core, shown_core}
+use Rattle.name_meaning.proofs.Opened.{CoreLayer, opened_core, shown_core}
 use Rattle.name_meaning.specs.Cores.{BodyPart, core_step}
 use Rattle.name_meaning.specs.Froms.{external, names_of, read_names, read_query, read_view, settled_columns, in_from}
 use Rattle.name_meaning.specs.Meanings.{Around, OutColumn, QueryMeant, QueryPart, query_means_at}
@@ -34,7 +34,7 @@ module _ (c : Contents) (outer : List Scope) where
   own = in_from outer
 
   -- where the word may stand it is no break
-  wordless : (layer : Layer_core) → (core_step (shown_core c layer)).means own ≡ (core_step (shown_core c (record layer { provenance = None }))).means own
+  wordless : (layer : CoreLayer) → (core_step (shown_core c layer)).means own ≡ (core_step (shown_core c (record layer { provenance = None }))).means own
   wordless layer = refl
 
   same-without : (tree plain : SetTree) → WithoutWord tree plain → (set_of_tree c tree).means own ≡ (set_of_tree c plain).means own
@@ -42,7 +42,7 @@ module _ (c : Contents) (outer : List Scope) where
   same-without tree plain (plain_core core other e) =
       ap (λ (part : BodyPart). part.means own) (settree-core c core ∙ opened_core c core)
       ∙ wordless (out-Core core)
-      ∙ ap (λ (layer : Layer_core). (core_step (shown_core c layer)).means own) (sym e)
+      ∙ ap (λ (layer : CoreLayer). (core_step (shown_core c layer)).means own) (sym e)
       ∙ sym (ap (λ (part : BodyPart). part.means own) (settree-core c other ∙ opened_core c other))
   same-without tree plain (plain_first first other steps h) =
       ap (λ (part : BodyPart). part.means own) (settree-chain c first steps)
