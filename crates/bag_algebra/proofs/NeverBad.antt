@@ -4,12 +4,14 @@ use Rattle.null_logic.specs.declared.operator.Operator.{Operator}
 use Rattle.null_logic.specs.declared.operator.Operator.TheVariants as op
 use Rattle.perm_values.specs.declared.value.Value.{Value}
 use Rattle.bag_algebra.specs.Bags.{Row, Bag}
+use Rattle.bag_algebra.specs.Children.{subs_denote}
 use Rattle.bag_algebra.specs.Expressions.{value, values, arm_value, operate, with_one, with_two, with_three}
 use Rattle.bag_algebra.specs.FaultFree.{may_fault, faultless, parts_faultless, arms_faultless, option_faultless, items_faultless, is_sum, aggregates_faultless, is_scalar, fault_free, subs_fault_free}
-use Rattle.bag_algebra.specs.Meaning.{Database, denote, sub_denote, optional_value, condition_on, items_on, arguments_on}
+use Rattle.bag_algebra.specs.Meaning.{Database, denote, meaning, sub_denote, optional_value, condition_on, items_on, arguments_on}
 use Rattle.bag_algebra.specs.Kinds.{width_of}
 use Rattle.bag_algebra.specs.Means.{Witness, with_lists, kept, met_pairs, joined_rows, under, aggregated, aggregates_of, sub_value}
 use Rattle.bag_algebra.specs.Outcome.{Outcome, Good, Bad, is_good, and_then, mapped, both, both_then, gather, each}
+use Rattle.bag_algebra.specs.built.FaultFree.{all_fault_free}
 use Rattle.bag_algebra.specs.built.Patterns.{OpOf, ChainOf, CaseOf, IsNullOf, IsTruthOf, SameOf, BaseOf, FilterOf, ProjectOf, JoinOf, ApplyOf, UnionOf, IntersectOf, ExceptOf, DistinctOf, AggregateOf, LimitOf, ProvOf}
 use Rattle.bag_algebra.specs.declared.expr.Expr.{Expr, Row_of-Expr, Row_of-Arm, more_of-Expr, end_of-Expr, more_of-Arm, end_of-Arm}
 use Rattle.bag_algebra.specs.declared.expr.Expr.TheVariants.{Col, Lit, Sub}
@@ -22,6 +24,7 @@ use Rattle.bag_algebra.specs.declared.query.Query.{Query, Row_of-Sublink, more_o
 use Rattle.bag_algebra.specs.declared.query.Query.TheVariants.{Table, Single}
 use Rattle.bag_algebra.specs.declared.query.SubKind.{SubKind}
 use Rattle.bag_algebra.specs.declared.query.SubKind.TheVariants as sub
+use Rattle.bag_algebra.specs.declared.query.Sublink.{Sublink}
 use Rattle.bag_algebra.proofs.Truths.{left-true, right-true}
 
 -- ---- outcomes
@@ -246,3 +249,18 @@ mutual
       (good-query query (right-true (not (is_scalar kind) && option_faultless tested) _ own) db (u ∷ env))
       (λ x bag. good-sub kind x bag (left-true _ _ before)))
       (good-subs subs (right-true ((not (is_scalar kind) && option_faultless tested) && fault_free query) _ w) db env u)
+
+-- ---- sublinks as a list
+
+pub good-answers : (subs : List Sublink) → all_fault_free subs ≡ true → (db : Database) (env : List Row) (u : Row) →
+    is_good ((subs_denote subs db env).answers u) ≡ true
+good-answers [] w db env u = refl
+good-answers (s ∷ subs) w db env u =
+    let own = left-true ((not (is_scalar s.kind) && option_faultless s.tested) && fault_free s.query) (all_fault_free subs) w in
+    let form = left-true (not (is_scalar s.kind) && option_faultless s.tested) (fault_free s.query) own in
+    good-both (λ v vs. v ∷ vs) (both_then (optional_value s.tested env u) (meaning s.query db (u ∷ env)) (sub_value s.kind)) ((subs_denote subs db env).answers u)
+    (good-both_then (optional_value s.tested env u) (meaning s.query db (u ∷ env)) (sub_value s.kind)
+    (good-option s.tested (right-true (not (is_scalar s.kind)) (option_faultless s.tested) form) env u)
+    (good-query s.query (right-true (not (is_scalar s.kind) && option_faultless s.tested) (fault_free s.query) own) db (u ∷ env))
+    (λ x bag. good-sub s.kind x bag (left-true (not (is_scalar s.kind)) (option_faultless s.tested) form)))
+    (good-answers subs (right-true ((not (is_scalar s.kind) && option_faultless s.tested) && fault_free s.query) (all_fault_free subs) w) db env u)

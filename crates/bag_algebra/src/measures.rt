@@ -6,7 +6,7 @@ mod laws;
 mod scopes;
 mod sizes;
 
-pub use faults::{fault_free, faultless};
+pub use faults::{all_fault_free, fault_free, faultless, items_faultless};
 pub use kinds::width;
 pub use laws::{
     expressions_have_one_kind, fault_free_queries_meet_no_fault,

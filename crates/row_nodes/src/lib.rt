@@ -2,7 +2,6 @@
 //! what is known of its sublinks from row to row.
 #![tactic(auto)]
 
-mod fault_free;
 mod groups;
 mod input;
 mod items;

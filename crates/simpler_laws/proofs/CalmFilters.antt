@@ -1,5 +1,5 @@
 -- A filter with sublinks that can't fault: its conjuncts that need no sublink are tests below it.
-use Rattle.std.proofs.Common.{◌≡◌, ℕ, Bool, true, false, cond, not, ◌&&◌, ◌-◌, ◌^◌, List, [], ◌∷◌, ◌++◌, filter, refl, sym, ap, ◌∙◌, subst, true≢false}
+use Rattle.std.proofs.Common.{◌≡◌, ℕ, Bool, true, false, cond, ◌&&◌, ◌-◌, ◌^◌, List, [], ◌∷◌, ◌++◌, filter, refl, sym, ap, ◌∙◌, subst, true≢false}
 use Rattle.std.proofs.lemmas.List.Folds.{list_all-append}
 use Rattle.std.specs.List.{list_all}
 use Rattle.std.proofs.lemmas.Bool.{and_from}
@@ -7,17 +7,17 @@ use Rattle.perm_values.specs.declared.kind.Kind.{Kind}
 use Rattle.perm_values.specs.declared.kind.Kind.TheVariants as kind
 use Rattle.perm_values.specs.declared.value.Value.{Value}
 use Rattle.perm_values.proofs.Steps.{by}
-use Rattle.bag_algebra.proofs.NeverBad.{good-query, good-value, good-both, good-option}
-use Rattle.bag_algebra.proofs.Truths.{left-true, right-true, both-true}
-use Rattle.bag_algebra.specs.Bags.{Row, Bag}
+use Rattle.bag_algebra.proofs.NeverBad.{good-value, good-answers}
+use Rattle.bag_algebra.proofs.Truths.{both-true}
+use Rattle.bag_algebra.specs.Bags.{Row}
 use Rattle.bag_algebra.specs.Children.{subs_denote}
 use Rattle.bag_algebra.specs.Expressions.{value}
-use Rattle.bag_algebra.specs.FaultFree.{faultless, fault_free, is_scalar, option_faultless}
+use Rattle.bag_algebra.specs.FaultFree.{faultless}
 use Rattle.bag_algebra.specs.Fits.{TablesFit, env_fits}
 use Rattle.bag_algebra.specs.Kinds.{kinds_of}
-use Rattle.bag_algebra.specs.Meaning.{Database, meaning, condition_on, optional_value}
-use Rattle.bag_algebra.specs.Means.{is_met, sub_value}
-use Rattle.bag_algebra.specs.Outcome.{Outcome, Good, Bad, is_good, and_then, mapped, both_then}
+use Rattle.bag_algebra.specs.Meaning.{Database, meaning, condition_on}
+use Rattle.bag_algebra.specs.Means.{is_met}
+use Rattle.bag_algebra.specs.Outcome.{Outcome, Good, Bad, is_good, and_then, mapped}
 use Rattle.bag_algebra.specs.Rewriting.{is_plain, Stands}
 use Rattle.bag_algebra.specs.TablesRead.{EachTable}
 use Rattle.bag_algebra.specs.WellFormed.{HasKind, WellFormed}
@@ -28,8 +28,6 @@ use Rattle.bag_algebra.specs.built.Scopes.{all_plain, is_plain-Filter}
 use Rattle.bag_algebra.specs.declared.expr.Expr.{Expr}
 use Rattle.bag_algebra.specs.declared.query.Query.{Query}
 use Rattle.bag_algebra.specs.declared.query.Query.TheVariants.{Filter}
-use Rattle.bag_algebra.specs.declared.query.SubKind.{SubKind}
-use Rattle.bag_algebra.specs.declared.query.SubKind.TheVariants as sub
 use Rattle.bag_algebra.specs.declared.query.Sublink.{Sublink}
 use Rattle.contribution.proofs.SameTests.{all_hold-faultless}
 use Rattle.contribution.proofs.WhereGood.{Each}
@@ -44,29 +42,6 @@ use Rattle.simpler_laws.specs.Conjuncts.{conjuncts}
 use Rattle.simpler_laws.specs.Parts.{is_bound, is_free, IsParted}
 use Rattle.simpler_laws.specs.Tested.{hold, tested}
 use Rattle.simpler_laws.specs.declared.filters.Parts.{Parts}
-
--- ---- sublinks that can't fault
-
-good-sub : (kind : SubKind) (o : Outcome Value) (p : Outcome Bag) → not (is_scalar kind) ≡ true → is_good o ≡ true → is_good p ≡ true →
-    is_good (both_then o p (sub_value kind)) ≡ true
-good-sub sub.Exists (Good x) (Good bag) w h k = refl
-good-sub (sub.Any c) (Good x) (Good bag) w h k = refl
-good-sub (sub.All c) (Good x) (Good bag) w h k = refl
-good-sub sub.Scalar (Good x) (Good bag) w h k = absurd (true≢false (sym w))
-good-sub kind (Good x) (Bad g) w h k = absurd (true≢false (sym k))
-good-sub kind (Bad g) (Good bag) w h k = absurd (true≢false (sym h))
-good-sub kind (Bad g) (Bad l) w h k = absurd (true≢false (sym h))
-
-good-answers : (subs : List Sublink) → all_fault_free subs ≡ true → (db : Database) (env : List Row) (u : Row) → is_good ((subs_denote subs db env).answers u) ≡ true
-good-answers [] w db env u = refl
-good-answers (s ∷ subs) w db env u =
-    let own = left-true ((not (is_scalar s.kind) && option_faultless s.tested) && fault_free s.query) (all_fault_free subs) w in
-    let form = left-true (not (is_scalar s.kind) && option_faultless s.tested) (fault_free s.query) own in
-    good-both (λ v vs. v ∷ vs) (both_then (optional_value s.tested env u) (meaning s.query db (u ∷ env)) (sub_value s.kind)) ((subs_denote subs db env).answers u)
-    (good-sub s.kind (optional_value s.tested env u) (meaning s.query db (u ∷ env)) (left-true (not (is_scalar s.kind)) (option_faultless s.tested) form)
-    (good-option s.tested (right-true (not (is_scalar s.kind)) (option_faultless s.tested) form) env u)
-    (good-query s.query (right-true (not (is_scalar s.kind) && option_faultless s.tested) (fault_free s.query) own) db (u ∷ env)))
-    (good-answers subs (right-true ((not (is_scalar s.kind) && option_faultless s.tested) && fault_free s.query) (all_fault_free subs) w) db env u)
 
 -- ---- truths
 

@@ -13,7 +13,7 @@ mod standing;
 
 pub use columns::reads_only;
 pub use conditions::{conjunction, conjuncts, is_always, with_conjuncts};
-pub use filters::{Parts, all_fault_free, filter_parts};
+pub use filters::{Parts, filter_parts};
 pub use lowering::{lowered, own_place, own_places};
 pub use merged::{distinct_once, gives_once, inner_pairs, input_of, project_merged};
 pub use nodes::{filter_on, inner_join, tested};

@@ -7,7 +7,7 @@ ghost use Rattle.contribution.specs.ItemKinds.{column_of};
 ghost use Rattle.query_laws.specs.spines.Spines.{IsSpineOf, is_base, items_behind, spine_over, spine_with, tests_with};
 
 use crate::spines::placing::{placed, placed_items};
-use bag_algebra::{Expr, Item, Query, fault_free, faultless};
+use bag_algebra::{Expr, Item, Query, fault_free, faultless, items_faultless};
 use contribution::kinds;
 use null_logic::Operator;
 use perm_values::{Copyable, Kind, List, NoMemory};
@@ -201,18 +201,6 @@ fn projected(alloc: Global, spine: Spine, items: &[Item]) -> Result<Option<Spine
         return Err(NoMemory);
     };
     Ok(Some(with_items(spine, made)))
-}
-
-/// Whether no item may fault.
-fn items_faultless(items: &[Item]) -> bool
-    ensures { result ≡ items_faultless items.now }
-{
-    for item in items {
-        if !faultless(&item.expr) {
-            return false;
-        }
-    }
-    true
 }
 
 fn with_items(spine: Spine, made: List<Item>) -> Spine
