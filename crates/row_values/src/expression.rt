@@ -1,5 +1,5 @@
 //! The value of an expression on a row.
-ghost use Rattle.std.specs.Prelude.{◌≡◌, false, IfOk, IfSome};
+ghost use Rattle.std.specs.Prelude.{◌≡◌, false, [], IfOk, IfSome};
 ghost use Rattle.std.specs.Option.{option_copied};
 ghost use Rattle.perm_values.specs.Rows.{value_at};
 ghost use Rattle.perm_values.specs.declared.value.Value.{Value as Cell};
@@ -53,6 +53,17 @@ pub fn eval(
             same_as(left, operand(alloc, second.get(), row, subs, env))
         }
     }
+}
+
+/// The value of an expression that sees no column.
+///
+/// `Fault` names a fault that the expression meets, and comes only where it meets one.
+pub fn value_alone(alloc: Global, expr: &Expr) -> Result<Value, ExecError>
+    ensures { Gives (value expr.now [] [] []) result }
+{
+    let nothing = Row::new(alloc);
+    let env = Env::new(alloc);
+    eval(alloc, expr, &nothing, &[], &env)
 }
 
 /// The value of an operand, which is read where it lies if it is a column, a literal or a sublink's.

@@ -20,5 +20,5 @@ pub use nodes::{filter_on, inner_join, tested};
 pub use pairs::{Sides, join_sides};
 pub use standing::{
     add_standing, aggregate_standing, apply_standing, except_standing, filter_standing,
-    intersect_standing, join_standing, limit_standing, project_standing, table, union_standing,
+    intersect_standing, join_standing, limit_standing, project_standing, union_standing,
 };

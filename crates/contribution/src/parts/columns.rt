@@ -68,7 +68,8 @@ pub fn column_items(alloc: Global, kinds: &[Kind], order: &[usize]) -> Result<Li
     Ok(items)
 }
 
-fn column(place: usize, kind: Kind) -> Item
+/// The column of the own row at the place, of this kind. It takes no memory.
+pub fn column(place: usize, kind: Kind) -> Item
     ensures { result ≡ column_of kind place }
 {
     Item {

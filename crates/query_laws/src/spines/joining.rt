@@ -2,14 +2,13 @@
 ghost use Rattle.std.specs.Prelude.{◌≡◌, ◌++◌, [], IfOk, IfSome, IsTrue};
 ghost use Rattle.bag_algebra.specs.Kinds.{kinds_of, width_of};
 ghost use Rattle.bag_algebra.specs.built.Patterns.{ProjectOf};
-ghost use Rattle.bag_algebra.specs.declared.query.JoinKind.TheVariants.{Left};
 ghost use Rattle.bag_algebra.specs.declared.query.Query.{Query, end_of-Sublink};
 ghost use Rattle.query_laws.specs.spines.Spines.{IsBeside, IsJoined, IsSpine, all_behind, is_behind, items_behind};
 ghost use Rattle.query_laws.specs.spines.Spines.{spine_join, test_of};
 
 use crate::spines::spine::{Spine, items_behind, spine_of};
 use bag_algebra::{Expr, Item, JoinKind, Query, width};
-use contribution::{always, join_on, kinds, projection};
+use contribution::{always, join_on, kinds, outwards, projection};
 use perm_values::{List, NoMemory};
 use std::alloc::Global;
 
@@ -32,13 +31,6 @@ pub fn beside(alloc: Global, rows: Query, right: Query) -> Result<Query, NoMemor
         }
         None => Query::apply(alloc, outwards(), rows, right),
     }
-}
-
-/// Left rows without partner are kept.
-fn outwards() -> JoinKind
-    ensures { result ≡ Left }
-{
-    JoinKind::Left
 }
 
 /// The spine that the right query is beside the rows, where its items are columns of the base.

@@ -5,7 +5,7 @@ ghost use Rattle.bag_algebra.specs.declared.query.JoinKind.TheVariants.{Inner};
 ghost use Rattle.rewrite_core.specs.rewritings.KeptColumns.{columns_kept, differs_from_first, kept_places, pairs_of, same_as_first};
 
 use bag_algebra::{Expr, JoinKind, Query, width};
-use contribution::{join_on, regroup, same_columns};
+use contribution::{inwards, join_on, regroup, same_columns};
 use null_logic::Operator;
 use perm_values::{List, NoMemory};
 use std::alloc::Global;
@@ -120,12 +120,6 @@ pub fn join_on_first_columns(
         drop(right);
         return Err(NoMemory);
     };
+    // a row that stands on one side alone isn't kept
     join_kept(alloc, inwards(), left, right, same, kept, columns)
-}
-
-/// A row that stands on one side alone isn't kept.
-fn inwards() -> JoinKind
-    ensures { result ≡ Inner }
-{
-    JoinKind::Inner
 }
