@@ -23,7 +23,7 @@ use Rattle.bag_algebra.specs.declared.query.Aggr.{Aggr}
 use Rattle.contribution.proofs.NodeKinds.{with_lists-fit}
 use Rattle.contribution.proofs.RowKinds.{RowFits, BagFits, ListsFit, MeansFit, row_fits-append, picked-fits, each-filter, each-sorted, each-map, each-once, one-fits, lists_fit-flat_map}
 use Rattle.contribution.proofs.ValueKinds.{Fits, GoodFits, null-fits, integer-fits}
-use Rattle.contribution.proofs.WhereGood.{WhereGood, Each, any_value, each-in, each-of, good-mapped, good-and_then, good-both, good-each}
+use Rattle.contribution.proofs.WhereGood.{WhereGood, Every, any_value, each-in, each-of, good-mapped, good-and_then, good-both, good-each}
 use Rattle.contribution.specs.FitsPlaces.{FitsPlaces}
 use Rattle.std.proofs.lemmas.Bool.{and_from}
 
@@ -56,7 +56,7 @@ null-argument Max k = null-fits k
 number-fits : (k : Kind) (z : ℤ) → k ≡ kind.Integer → Fits k (Integer z)
 number-fits k z e = subst (λ l. Fits l (Integer z)) (sym e) (integer-fits z)
 
-first-fits : (k : Kind) (vs : List Value) → Each (Fits k) vs → Fits k (first_or_null vs)
+first-fits : (k : Kind) (vs : List Value) → Every (Fits k) vs → Fits k (first_or_null vs)
 first-fits k [] h = null-fits k
 first-fits k (v ∷ vs) h = h.0
 
@@ -67,7 +67,7 @@ sum-fits k (v ∷ vs) e = at (fits_64 (total (v ∷ vs))) where
   at true = number-fits k (total (v ∷ vs)) e
   at false = tt
 
-pub aggregated-fits : (function : AggFn) (k : Kind) (vs : List Value) → GivesNumber function k → Each (ArgumentFits function k) vs →
+pub aggregated-fits : (function : AggFn) (k : Kind) (vs : List Value) → GivesNumber function k → Every (ArgumentFits function k) vs →
     GoodFits k (aggregated function vs)
 aggregated-fits CountRows k vs e h = number-fits k _ e
 aggregated-fits Count k vs e h = number-fits k _ e
@@ -95,11 +95,11 @@ arguments-behind [] place v row h = tt
 arguments-behind (aggregate ∷ aggregates) place v row h = (h.0, arguments-behind aggregates (suc place) v row h.1)
 
 pub record NumbersGiven (aggregates : List Aggr) : Type 0 where
-  pub given : Each (λ (aggregate : Aggr). GivesNumber aggregate.function aggregate.kind) aggregates
+  pub given : Every (λ (aggregate : Aggr). GivesNumber aggregate.function aggregate.kind) aggregates
 
 aggregates_of-fits : (aggregates : List Aggr) (place : ℕ) (rows : List Row) →
-    Each (λ (aggregate : Aggr). GivesNumber aggregate.function aggregate.kind) aggregates →
-    Each (ArgumentsFrom aggregates place) rows → WhereGood (RowFits (aggregate_kinds aggregates)) (aggregates_of (functions_of aggregates) place rows)
+    Every (λ (aggregate : Aggr). GivesNumber aggregate.function aggregate.kind) aggregates →
+    Every (ArgumentsFrom aggregates place) rows → WhereGood (RowFits (aggregate_kinds aggregates)) (aggregates_of (functions_of aggregates) place rows)
 aggregates_of-fits [] place rows e h = record { fit = refl }
 aggregates_of-fits (aggregate ∷ aggregates) place rows e h =
     good-both (Fits aggregate.kind) (RowFits (aggregate_kinds aggregates)) (RowFits (aggregate_kinds (aggregate ∷ aggregates))) (λ v vs. v ∷ vs) _ _

@@ -12,9 +12,7 @@ use Rattle.sql_tree.specs.declared.name.Name.{Name}
 use Rattle.sql_tree.specs.declared.query.QueryTree.{QueryTree}
 use Rattle.sql_tree.specs.declared.source.FromItem.{FromItem}
 use Rattle.sql_tree.specs.declared.source.FromSource.TheVariants as source
-use Rattle.sql_tree.specs.declared.source.JoinStep.{JoinStep, out-JoinStep, roll-JoinStep}
-use Rattle.sql_tree.specs.declared.source.JoinWord.{JoinWord}
-use Rattle.sql_tree.specs.declared.expression.ExprTree.{ExprTree}
+use Rattle.sql_tree.specs.declared.source.JoinStep.{JoinStep, out-JoinStep}
 use Rattle.sql_tree.specs.declared.expression.ExprBody.TheViews.{roll-out-JoinStep}
 use Rattle.sql_tree.specs.declared.source.ScopeMark.{ScopeMark}
 use Rattle.contribution.specs.Conjunctions.{always}
@@ -25,6 +23,7 @@ use Rattle.name_meaning.specs.Trees.{from_item_of, join_of, part_of, query_of, s
 use Rattle.name_meaning.specs.declared.scope.Scope.{Scope}
 use Rattle.name_meaning.proofs.Equations.{token, fromitem-record, fromsource-inner, fromsource-named, joinstep-record-none, joinstep-record-some}
 use Rattle.name_meaning.proofs.Lateral.{join-begins, join-items, join-lateral, join-plain, lateral_item, plain_item, plainly}
+use Rattle.name_meaning.proofs.Opened.{join-record}
 use Rattle.name_made_parts.specs.Sources.{IsScope, JoinsMade, MakesBeside, MakesFrom, MakesJoin, MakesOn, MakesSource, SourcesMade, StandsIn, beside_left, text_of, join_on_kept, kept_or_yes}
 use Rattle.name_seen_parts.proofs.Scoping.{more-behind}
 use Rattle.name_made_parts.proofs.Coring.{own-whole}
@@ -239,12 +238,6 @@ sources-made outer (part ∷ parts) scope made count query so_far is whole stand
 
 -- ---- trees
 
-join-record : (c : Contents) (word : JoinWord) (item : FromItem) (condition : Option ExprTree)
-    → join_of c (roll-JoinStep (record { word = word; item = item; condition = condition })) ≡ record {
-      word = word;
-      item = from_item_of c item;
-      condition = option_map (part_of c) condition;
-    }
 unfolding token
 join-record c word item None = joinstep-record-none c word item
 join-record c word item (Some condition) = joinstep-record-some c word item condition

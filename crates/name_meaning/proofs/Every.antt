@@ -1,18 +1,11 @@
 -- What holds of each of a list, and lists that are empty in all their parts.
-use Rattle.std.specs.Prelude.{◌≡◌, ⊤, true, cond, None, List, [], ◌∷◌, ◌++◌, map, Bool, false, ℕ, not}
+use Rattle.std.specs.Prelude.{◌≡◌, true, cond, None, List, [], ◌∷◌, map, Bool, false, ℕ, not}
 use Rattle.std.proofs.Common.{refl, ap, sym, true≢false}
 use Rattle.std.specs.List.{flat_map}
+use Rattle.contribution.proofs.WhereGood.{Every, every-append}
 use Rattle.name_meaning.specs.Meanings.{Meant, is_whole, seen_kind, broken_if}
 use Rattle.name_meaning.specs.declared.answer.Break.{Break}
 use Rattle.name_meaning.specs.declared.rule.Rule.{Rule}
-
-abbrev pub Every : {X : Type 0} → (X → Type 0) → List X → Type 0
-Every P [] = ⊤
-Every P (x ∷ xs) = P x × Every P xs
-
-pub every-append : {X : Type 0} (P : X → Type 0) (xs ys : List X) → Every P xs → Every P ys → Every P (xs ++ ys)
-every-append P [] ys h k = k
-every-append P (x ∷ xs) ys h k = (h.0, every-append P xs ys h.1 k)
 
 pub every-map : {X Y : Type 0} (P : X → Type 0) (Q : Y → Type 0) (f : X → Y) (keep : (x : X) → P x → Q (f x)) (xs : List X)
     → Every P xs → Every Q (map f xs)

@@ -57,8 +57,8 @@ use Rattle.name_meaning.proofs.Cores.{formed-condition}
 use Rattle.name_meaning.proofs.Sublinks.{GoodQuery}
 use Rattle.name_meaning.specs.declared.rule.Rule.TheVariants as rule
 use Rattle.name_meaning.proofs.Every.{unbroken-not}
-use Rattle.name_meaning.proofs.KindsOf.{kinds-table_columns, kinds-settled_columns, items_kinds-append, kinds-plain, table_with, kinds-table, kinds-marked}
-use Rattle.name_meaning.proofs.Settled.{kinds-named_columns}
+use Rattle.name_meaning.proofs.KindsOf.{kinds-table_columns, items_kinds-append, kinds-plain, table_with, kinds-table, kinds-marked}
+use Rattle.name_meaning.proofs.Settled.{kinds-named_columns, settled-kinds}
 use Rattle.name_meaning.proofs.Standing.{stand-whole}
 
 -- ---- places
@@ -186,7 +186,7 @@ module _ (c : Contents) (sound : IsSound c) where
   good-read_query : (around : Around) (m : QueryMeant) → GoodQuery around m → GoodRead around.outer (read_query m)
   good-read_query around m good whole =
       let query = good.known whole in
-      let kinds = query.kinds [] ∙ kinds-settled_columns query.columns in
+      let kinds = query.kinds [] ∙ settled-kinds query.columns in
       let names = option_map_or (λ (columns : List OutColumn). names_of (settled_columns columns)) m.columns [] in
       record {
         columns = settled_columns query.columns;

@@ -18,6 +18,7 @@ use Rattle.sql_tree.specs.declared.source.FromItem.{FromItem, roll-FromItem}
 use Rattle.sql_tree.specs.declared.source.FromSource.{FromSource, roll-FromSource}
 use Rattle.sql_tree.specs.declared.source.FromTree.{FromTree, roll-FromTree}
 use Rattle.sql_tree.specs.declared.source.JoinStep.{JoinStep, roll-JoinStep}
+use Rattle.contribution.proofs.WhereGood.{Every}
 use Rattle.name_meaning.proofs.Equations.{ExprBodyFrame, SelectItemFrame, SetTreeFrame, FromSourceFrame, ArmTreeFrame, ExprStepFrame, ExprTreeFrame, CoreFrame, QueryTreeFrame, SetStepFrame, FromItemFrame, FromTreeFrame, JoinStepFrame}
 use Rattle.name_meaning.specs.Cores.{BodyPart, core_step}
 use Rattle.name_meaning.specs.Expressions.{Body, StepPart, ArmPart, body_step, arm_step, step_step, expr_step}
@@ -26,7 +27,7 @@ use Rattle.name_meaning.specs.Items.{SelectPart, item_step}
 use Rattle.name_meaning.specs.Meanings.{Part, QueryPart}
 use Rattle.name_meaning.specs.Queries.{SetStepPart, set_step, set_step_step, query_step}
 use Rattle.name_meaning.specs.Trees.{body_of, item_of, set_of_tree, source_of, arm_of, step_of, part_of, core_of, query_of, set_step_of, from_item_of, from_of, join_of}
-use Rattle.name_meaning.proofs.Every.{Every, every-proved}
+use Rattle.name_meaning.proofs.Every.{every-proved}
 use Rattle.name_meaning.proofs.Opened.{ArmLayer, StepLayer, PartLayer, CoreLayer, QueryLayer, SetStepLayer, FromItemLayer, FromLayer, JoinLayer, shown_body, shown_item, shown_set, shown_source, shown_arm, shown_step, shown_part, shown_core, shown_query, shown_set_step, shown_from_item, shown_from, shown_join}
 
 module _ (c : Contents) (OfBody : Body → Type 0) (OfItem : SelectPart → Type 0) (OfSet : BodyPart → Type 0) (OfSource : SourcePart → Type 0)

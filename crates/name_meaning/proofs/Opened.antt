@@ -243,7 +243,7 @@ core-is c tree =
 abbrev pub frame_join : Contents → JoinWord → FromItem → Option ExprTree → JoinStepFrame
 frame_join c word item condition = record { word = word; item = from_item_of c item; condition = option_map (part_of c) condition }
 
-join-record : (c : Contents) (word : JoinWord) (item : FromItem) (condition : Option ExprTree)
+pub join-record : (c : Contents) (word : JoinWord) (item : FromItem) (condition : Option ExprTree)
     → join_of c (roll-JoinStep (record { word = word; item = item; condition = condition })) ≡ join_step (frame_join c word item condition)
 unfolding token
 join-record c word item None = joinstep-record-none c word item

@@ -24,13 +24,13 @@ use Rattle.name_meaning.specs.Froms.{names_of, names_at, all_places, table_colum
 use Rattle.name_meaning.specs.Meanings.{Around, Meant, Part, QueryMeant, nothing_inside}
 use Rattle.name_meaning.specs.Scopes.{ScopeItem}
 use Rattle.name_meaning.specs.declared.scope.Scope.{Scope}
-use Rattle.name_meaning.proofs.Every.{Every}
 use Rattle.name_meaning.proofs.ReadMeant.{QueryReads, QueryPartReads}
 use Rattle.name_meaning.proofs.ReadNodes.{Grows, wide-left, wide-right, reads-Base, reads-Join, reads-Apply, subs-right}
 use Rattle.name_meaning.proofs.ReadCores.{OptionalReads}
 use Rattle.name_meaning.specs.Sublinks.{nothing_before}
 use Rattle.bag_algebra.specs.built.Forms.{EachTableOfSubs}
 use Rattle.contribution.specs.Conjunctions.{always}
+use Rattle.contribution.proofs.WhereGood.{Every}
 
 module _ (P : List (List ℕ) → ℕ → List Kind → Type 0) (g : Grows P) where
   -- it holds of the tables that the catalog holds, and of those that its views read

@@ -3,8 +3,10 @@ use Rattle.std.specs.Prelude.{◌≡◌, ℕ, suc, pred, List, [], ◌∷◌, �
 use Rattle.std.proofs.Common.{refl, ap, ◌∙◌, arith, sym}
 use Rattle.perm_values.specs.declared.kind.Kind.{Kind}
 use Rattle.perm_values.specs.declared.kind.Kind.TheVariants as kind
+use Rattle.perm_catalog.specs.Columns.{column_kinds}
+use Rattle.perm_catalog.specs.declared.column.Column.{Column}
 use Rattle.name_meaning.specs.Cores.{settle}
-use Rattle.name_meaning.specs.Froms.{named_columns, names_of, settled_columns}
+use Rattle.name_meaning.specs.Froms.{named_columns, names_of, settled_columns, table_columns}
 use Rattle.name_meaning.specs.Items.{Titled, named_from}
 use Rattle.name_meaning.specs.Meanings.{OutColumn, settled, united_kind, unites}
 use Rattle.name_meaning.specs.Queries.{out_column, united_columns}
@@ -23,6 +25,15 @@ settled-kinds (column ∷ columns) = ap (λ (kinds : List Kind). settled column.
 pub settled-names : (columns : List OutColumn) → length (names_of (settled_columns columns)) ≡ length columns
 settled-names [] = refl
 settled-names (column ∷ columns) = ap suc (settled-names columns)
+
+pub named-names : (names : List (List ℕ)) (kinds : List Kind) → length names ≡ length kinds → names_of (named_columns names kinds) ≡ names
+named-names [] kinds same = refl
+named-names (name ∷ names) [] same = absurd (omega (arith, same))
+named-names (name ∷ names) (kind ∷ kinds) same = ap (λ (more : List (List ℕ)). name ∷ more) (named-names names kinds (ap pred same))
+
+pub table-kinds : (columns : List Column) → column_kinds_of (table_columns columns) ≡ column_kinds columns
+table-kinds [] = refl
+table-kinds (column ∷ columns) = ap (λ (kinds : List Kind). column.kind ∷ kinds) (table-kinds columns)
 
 pub settled-united : (k other : Option Kind) (wanted : Kind) → settled k (settled (united_kind k other) wanted) ≡ settled (united_kind k other) wanted
 settled-united None other wanted = refl

@@ -4,24 +4,13 @@ use Rattle.std.proofs.Common.{refl, ap, sym, ◌∙◌}
 use Rattle.perm_catalog.specs.Contents.{Contents}
 use Rattle.sql_tree.specs.Regular.{BodyLayer}
 use Rattle.sql_tree.specs.declared.expression.AggWord.{AggWord}
-use Rattle.sql_tree.specs.declared.expression.ArmTree.{ArmTree}
 use Rattle.sql_tree.specs.declared.expression.ExprBody.{ExprBody, out-ExprBody, roll-ExprBody}
-use Rattle.sql_tree.specs.declared.expression.ExprBody.TheFolds.{map-ExprBody, fold-roll-ExprBody}
+use Rattle.sql_tree.specs.declared.expression.ExprBody.TheFolds.{fold-roll-ExprBody}
 use Rattle.sql_tree.specs.declared.expression.ExprBody.TheOpen.{ExprBody-F}
 use Rattle.sql_tree.specs.declared.expression.ExprBody.TheVariants as e
 use Rattle.sql_tree.specs.declared.expression.ExprBody.TheViews.{roll-out-ExprBody}
-use Rattle.sql_tree.specs.declared.expression.ExprStep.{ExprStep}
 use Rattle.sql_tree.specs.declared.expression.ExprTree.{ExprTree}
 use Rattle.sql_tree.specs.declared.name.ColRef.{ColRef}
-use Rattle.sql_tree.specs.declared.query.Core.{Core}
-use Rattle.sql_tree.specs.declared.query.QueryTree.{QueryTree}
-use Rattle.sql_tree.specs.declared.query.SelectItem.{SelectItem}
-use Rattle.sql_tree.specs.declared.query.SetStep.{SetStep}
-use Rattle.sql_tree.specs.declared.query.SetTree.{SetTree}
-use Rattle.sql_tree.specs.declared.source.FromItem.{FromItem}
-use Rattle.sql_tree.specs.declared.source.FromSource.{FromSource}
-use Rattle.sql_tree.specs.declared.source.FromTree.{FromTree}
-use Rattle.sql_tree.specs.declared.source.JoinStep.{JoinStep}
 use Rattle.name_meaning.specs.Cores.{BodyPart, core_step}
 use Rattle.name_meaning.specs.Expressions.{Body, StepPart, ArmPart, body_step, arm_step, step_step, expr_step}
 use Rattle.name_meaning.specs.Froms.{SourcePart, FromItemPart, FromPart, JoinPart, source_step, from_item_step, from_step, join_step}
@@ -30,15 +19,11 @@ use Rattle.name_meaning.specs.Meanings.{Part, QueryPart}
 use Rattle.name_meaning.specs.Queries.{SetStepPart, set_step, set_step_step, query_step}
 use Rattle.name_meaning.specs.Sublinks.{aggregate_name}
 use Rattle.name_meaning.specs.Trees.{body_of, item_of, set_of_tree, source_of, arm_of, step_of, part_of, core_of, query_of, set_step_of, from_item_of, from_of, join_of}
-use Rattle.name_meaning.proofs.Equations.{ExprBodyFrame, token, exprbody-aggregate-none, exprbody-aggregate-some, exprbody-column, exprbody-paren, exprtree-record}
+use Rattle.name_meaning.proofs.Equations.{token, exprbody-aggregate-none, exprbody-aggregate-some, exprbody-column, exprbody-paren, exprtree-record}
+use Rattle.name_meaning.proofs.Opened.{shown_body}
 use Rattle.name_seen_cores.specs.Shown.{called_at, name_or}
 
-abbrev seen_layer : Contents → BodyLayer → ExprBodyFrame
-seen_layer c layer = map-ExprBody ExprBody SelectItem SetTree FromSource ArmTree ExprStep ExprTree Core QueryTree SetStep FromItem FromTree JoinStep
-    Body SelectPart BodyPart SourcePart ArmPart StepPart Part BodyPart QueryPart SetStepPart FromItemPart FromPart JoinPart
-    (body_of c) (item_of c) (set_of_tree c) (source_of c) (arm_of c) (step_of c) (part_of c) (core_of c) (query_of c) (set_step_of c) (from_item_of c) (from_of c) (join_of c) layer
-
-body-is : (c : Contents) (body : ExprBody) → body_of c body ≡ body_step (seen_layer c (out-ExprBody body))
+body-is : (c : Contents) (body : ExprBody) → body_of c body ≡ body_step (shown_body c (out-ExprBody body))
 unfolding body_of item_of set_of_tree source_of arm_of step_of part_of core_of query_of set_step_of from_item_of from_of join_of
 body-is c body = ap (body_of c) (sym (roll-out-ExprBody body)) ∙ fold-roll-ExprBody Body SelectPart BodyPart SourcePart ArmPart StepPart Part BodyPart QueryPart SetStepPart FromItemPart FromPart JoinPart
     body_step item_step set_step source_step arm_step step_step expr_step core_step query_step set_step_step (from_item_step c) from_step join_step (out-ExprBody body)
@@ -49,7 +34,7 @@ no-name c body no_column no_paren no_aggregate = ap (λ (b : Body). b.called) (b
   rolled : (layer : BodyLayer) → out-ExprBody body ≡ layer → body ≡ roll-ExprBody layer
   rolled layer is = sym (roll-out-ExprBody body) ∙ ap roll-ExprBody is
 
-  by-layer : (layer : BodyLayer) → out-ExprBody body ≡ layer → (body_step (seen_layer c layer)).called ≡ None
+  by-layer : (layer : BodyLayer) → out-ExprBody body ≡ layer → (body_step (shown_body c layer)).called ≡ None
   by-layer ExprBody-F.Null is = refl
   by-layer (ExprBody-F.NullOf k) is = refl
   by-layer (ExprBody-F.Integer n) is = refl

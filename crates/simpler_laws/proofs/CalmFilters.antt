@@ -30,7 +30,7 @@ use Rattle.bag_algebra.specs.declared.query.Query.{Query}
 use Rattle.bag_algebra.specs.declared.query.Query.TheVariants.{Filter}
 use Rattle.bag_algebra.specs.declared.query.Sublink.{Sublink}
 use Rattle.contribution.proofs.SameTests.{all_hold-faultless}
-use Rattle.contribution.proofs.WhereGood.{Each}
+use Rattle.contribution.proofs.WhereGood.{Every}
 use Rattle.contribution.specs.Conjunctions.{all_hold}
 use Rattle.rewrite_core.proofs.Itself.{stands-onward}
 use Rattle.simpler_laws.proofs.Gathered.{filter-good, filter-twice, mapped-twice}
@@ -54,13 +54,13 @@ last-first false b c = refl
 
 -- ---- tests that need no sublink
 
-hold-free : (tests : List Expr) → Each (λ test. is_free test ≡ true) tests → (env : List Row) (answers : List Value) (u : Row) →
+hold-free : (tests : List Expr) → Every (λ test. is_free test ≡ true) tests → (env : List Row) (answers : List Value) (u : Row) →
     hold tests env answers u ≡ hold tests env [] u
 hold-free [] h env answers u = refl
 hold-free (test ∷ tests) h env answers u =
     λ i. is_met (value-read true 0 (2 ^ 64 - 1) u u (λ place w. refl) env answers [] test h.0 i) && hold-free tests h.1 env answers u i
 
-have-free : (kinds : List Kind) (outer : List (List Kind)) (subs : List Kind) (k : Kind) (tests : List Expr) → Each (λ test. is_free test ≡ true) tests →
+have-free : (kinds : List Kind) (outer : List (List Kind)) (subs : List Kind) (k : Kind) (tests : List Expr) → Every (λ test. is_free test ≡ true) tests →
     AllHave (kinds ∷ outer) subs tests k → AllHave (kinds ∷ outer) [] tests k
 have-free kinds outer subs k [] h g = tt
 have-free kinds outer subs k (test ∷ tests) h g =

@@ -28,7 +28,7 @@ use Rattle.bag_algebra.specs.declared.query.Query.{Query}
 use Rattle.bag_algebra.specs.declared.query.Query.TheVariants.{Project}
 use Rattle.contribution.proofs.ColumnQueries.{all-nothing, all-first}
 use Rattle.contribution.proofs.QueryKinds.{each-all}
-use Rattle.contribution.proofs.WhereGood.{Each}
+use Rattle.contribution.proofs.WhereGood.{Every}
 use Rattle.contribution.specs.MovedColumns.{PartsMoved}
 use Rattle.rewrite_core.proofs.Itself.{stands-onward}
 use Rattle.simpler_laws.proofs.Gathered.{filter-map, mapped-twice}
@@ -82,7 +82,7 @@ module _ (kinds : List Kind) (outer : List (List Kind)) where
   column-kind : (item : Item) (place : ℕ) → item.expr ≡ Col 0 place → HasKind (kinds ∷ outer) [] item.expr item.kind → slice_get kinds place ≡ Some item.kind
   column-kind item place e h = by (λ i. HasKind (kinds ∷ outer) [] (e i) item.kind) h
 
-  pub columns-kinds : (items : List Item) (places : List ℕ) → AreColumns items places → Each (λ (item : Item). HasKind (kinds ∷ outer) [] item.expr item.kind) items →
+  pub columns-kinds : (items : List Item) (places : List ℕ) → AreColumns items places → Every (λ (item : Item). HasKind (kinds ∷ outer) [] item.expr item.kind) items →
       item_kinds items ≡ kinds_in kinds places
   columns-kinds [] [] h g = refl
   columns-kinds [] (place ∷ places) h g = absurd h
@@ -90,7 +90,7 @@ module _ (kinds : List Kind) (outer : List (List Kind)) where
   columns-kinds (item ∷ items) (place ∷ places) h g =
       λ i. sym (get_or_from_slice_get kinds place item.kind kind.Text (column-kind item place h.0 g.0)) i ∷ columns-kinds items places h.1 g.1 i
 
-  pub columns-within : (items : List Item) (places : List ℕ) → AreColumns items places → Each (λ (item : Item). HasKind (kinds ∷ outer) [] item.expr item.kind) items →
+  pub columns-within : (items : List Item) (places : List ℕ) → AreColumns items places → Every (λ (item : Item). HasKind (kinds ∷ outer) [] item.expr item.kind) items →
       PlacesWithin (length kinds) places
   columns-within [] [] h g = all-nothing (λ place. place < length kinds)
   columns-within [] (place ∷ places) h g = absurd h

@@ -22,7 +22,7 @@ use Rattle.bag_algebra.specs.declared.query.Query.TheVariants.{Project}
 use Rattle.bag_algebra.specs.declared.query.Sublink.{Sublink}
 use Rattle.contribution.proofs.ColumnQueries.{all-nothing, all-first}
 use Rattle.contribution.proofs.QueryKinds.{each-all}
-use Rattle.contribution.proofs.WhereGood.{Each}
+use Rattle.contribution.proofs.WhereGood.{Every}
 use Rattle.query_laws.proofs.SameExpressions.{items-themselves}
 use Rattle.query_laws.proofs.StandingNodes.{stands-Project}
 use Rattle.query_laws.specs.Standing.{SubsStand}
@@ -74,7 +74,7 @@ merged-kinds lower (item ∷ upper) (other ∷ made) m = λ i. m.0.kind i ∷ me
 
 module _ (kinds : List Kind) (outer : List (List Kind)) (lower : List Item) (form : ItemsForm (kinds ∷ outer) [] lower) where
   merged-formed : (upper made : List Item) → ItemsSubstituted lower upper made →
-      Each (λ (item : Item). HasKind (item_kinds lower ∷ outer) [] item.expr item.kind) upper → ItemsForm (kinds ∷ outer) [] made
+      Every (λ (item : Item). HasKind (item_kinds lower ∷ outer) [] item.expr item.kind) upper → ItemsForm (kinds ∷ outer) [] made
   merged-formed [] [] m h = all-nothing (λ (i : Item). HasKind (kinds ∷ outer) [] i.expr i.kind)
   merged-formed [] (other ∷ made) m h = absurd m
   merged-formed (item ∷ upper) [] m h = absurd m

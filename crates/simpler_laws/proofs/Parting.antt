@@ -21,7 +21,7 @@ use Rattle.bag_algebra.specs.built.FaultFree.{all_parts_faultless}
 use Rattle.bag_algebra.specs.built.Forms.{AllHave}
 use Rattle.bag_algebra.specs.declared.expr.Expr.{Expr}
 use Rattle.contribution.proofs.ColumnQueries.{all-nothing, all-first}
-use Rattle.contribution.proofs.WhereGood.{Each}
+use Rattle.contribution.proofs.WhereGood.{Every}
 use Rattle.contribution.specs.MovedColumns.{IsMoved, PartsMoved}
 use Rattle.rewrite_core.proofs.Places.{at-between, within-range}
 use Rattle.simpler_laws.proofs.Reading.{value-read, kind-read}
@@ -78,11 +78,11 @@ module _ {X : Type 0} (holds : X → Bool) where
   two-halves f (x ∷ xs) = one-half (f x) x (filter f xs) (filter (λ y. not (f y)) xs) (list_all holds xs) (two-halves f xs)
 
 -- what passes a test has it
-passed-put : {X : Type 0} (test : X → Bool) (x : X) (xs : List X) (b : Bool) → test x ≡ b → Each (λ y. test y ≡ true) xs → Each (λ y. test y ≡ true) (cond b (x ∷ xs) xs)
+passed-put : {X : Type 0} (test : X → Bool) (x : X) (xs : List X) (b : Bool) → test x ≡ b → Every (λ y. test y ≡ true) xs → Every (λ y. test y ≡ true) (cond b (x ∷ xs) xs)
 passed-put test x xs true e h = (e, h)
 passed-put test x xs false e h = h
 
-pub passed : {X : Type 0} (test : X → Bool) (xs : List X) → Each (λ x. test x ≡ true) (filter test xs)
+pub passed : {X : Type 0} (test : X → Bool) (xs : List X) → Every (λ x. test x ≡ true) (filter test xs)
 passed test [] = tt
 passed test (x ∷ xs) = passed-put test x (filter test xs) (test x) refl (passed test xs)
 
@@ -170,7 +170,7 @@ module _ (left right : ℕ) (u v : Row) (wide : length u ≡ left) (broad : leng
       map-append (value_at v) (zeros left) (range_with_len 0 right)
       ∙ ap (λ row. map (value_at v) (zeros left) ++ row) (all-places Null v right broad)
 
-  pub left-hold : (tests : List Expr) → Each (λ test. is_left left test ≡ true) tests → hold tests env [] (u ++ v) ≡ hold tests env [] u
+  pub left-hold : (tests : List Expr) → Every (λ test. is_left left test ≡ true) tests → hold tests env [] (u ++ v) ≡ hold tests env [] u
   left-hold [] h = refl
   left-hold (test ∷ tests) h =
       λ i. is_met (value-read false 0 left (u ++ v) u (λ place w. value-front u v place (omega (arith, wide, below place left (right-true (not (nat_lt place 0)) (nat_lt place left) w)))) env [] [] test h.0 i)
@@ -186,7 +186,7 @@ module _ (left right : ℕ) (u v : Row) (wide : length u ≡ left) (broad : leng
       env [] [] test (right-true (nat_lt 0 right) (reads_only false left (left + right) test) h)
 
   pub right-hold : (tests moved : List Expr) → PartsMoved (right_places left right) tests moved →
-      Each (λ test. is_right_alone left right test ≡ true) tests → hold tests env [] (u ++ v) ≡ hold moved env [] v
+      Every (λ test. is_right_alone left right test ≡ true) tests → hold tests env [] (u ++ v) ≡ hold moved env [] v
   right-hold [] [] m h = refl
   right-hold [] (p ∷ ps) m h = absurd m
   right-hold (test ∷ tests) [] m h = absurd m
@@ -197,7 +197,7 @@ module _ (left right : ℕ) (u v : Row) (wide : length u ≡ left) (broad : leng
 -- ---- their kinds
 
 module _ (lefts rights : List Kind) (outer : List (List Kind)) (k : Kind) where
-  pub left-have : (tests : List Expr) → Each (λ test. is_left (length lefts) test ≡ true) tests → AllHave ((lefts ++ rights) ∷ outer) [] tests k →
+  pub left-have : (tests : List Expr) → Every (λ test. is_left (length lefts) test ≡ true) tests → AllHave ((lefts ++ rights) ∷ outer) [] tests k →
       AllHave (lefts ∷ outer) [] tests k
   left-have [] h g = tt
   left-have (test ∷ tests) h g = (
@@ -226,7 +226,7 @@ module _ (lefts rights : List Kind) (outer : List (List Kind)) (k : Kind) where
       ∙ ap (λ kinds. slice_get kinds place) (sym kinds-right))
       outer [] [] test k (right-true (nat_lt 0 (length rights)) (reads_only false (length lefts) (length lefts + length rights) test) h) g)
 
-  pub right-have : (tests moved : List Expr) → PartsMoved order tests moved → Each (λ test. is_right_alone (length lefts) (length rights) test ≡ true) tests →
+  pub right-have : (tests moved : List Expr) → PartsMoved order tests moved → Every (λ test. is_right_alone (length lefts) (length rights) test ≡ true) tests →
       AllHave ((lefts ++ rights) ∷ outer) [] tests k → AllHave (rights ∷ outer) [] moved k
   right-have [] [] m h g = tt
   right-have [] (p ∷ ps) m h g = absurd m

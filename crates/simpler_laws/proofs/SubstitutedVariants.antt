@@ -1,4 +1,4 @@
--- Each variant of an expression is substituted in where its parts are.
+-- Every variant of an expression is substituted in where its parts are.
 use Rattle.std.proofs.Common.{◌≡◌, ℕ, zero, suc, ◌≤◌, ◌<◌, Bool, true, ◌&&◌, List, [], ◌∷◌, length, Some, refl, sym, ap, ◌∙◌, subst, arith, get_or}
 use Rattle.std.proofs.lemmas.Option.{same_Some}
 use Rattle.std.specs.Prelude.{slice_get}
@@ -33,7 +33,7 @@ use Rattle.bag_algebra.specs.declared.expr.Expr.TheBlock.{shape-the_row-Expr-0, 
 use Rattle.bag_algebra.specs.declared.expr.Expr.TheVariants.{Col, Lit, Op, Chain, Case, IsNull, IsTruth, Same}
 use Rattle.bag_algebra.specs.declared.expr.Item.{Item}
 use Rattle.contribution.proofs.QueryKinds.{each-all}
-use Rattle.contribution.proofs.WhereGood.{Each}
+use Rattle.contribution.proofs.WhereGood.{Every}
 use Rattle.query_laws.proofs.PlacedVariants.{kinds-beyond}
 use Rattle.simpler_laws.specs.merged.Substituted.{row_of_items, IsSubstituted, PartsSubstituted, StepsSubstituted, ArmsSubstituted}
 
@@ -56,7 +56,7 @@ column-value (first ∷ lower) (suc place) item low is calm u env subs = column-
 
 module _ (scopes : List (List Kind)) (subs : List Kind) where
   column-formed : (lower : List Item) (place : ℕ) (item : Item) (kind : Kind) → place < length lower → item ≡ get_or lower place item →
-      Each (λ (i : Item). HasKind scopes subs i.expr i.kind) lower → slice_get (item_kinds lower) place ≡ Some kind → HasKind scopes subs item.expr kind
+      Every (λ (i : Item). HasKind scopes subs i.expr i.kind) lower → slice_get (item_kinds lower) place ≡ Some kind → HasKind scopes subs item.expr kind
   column-formed [] place item kind low is h e = absurd (omega (arith, low))
   column-formed (first ∷ lower) zero item kind low is h e =
       subst (λ (i : Item). HasKind scopes subs i.expr kind) (sym is) (subst (HasKind scopes subs first.expr) (same_Some _ _ e) h.0)

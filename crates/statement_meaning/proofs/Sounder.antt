@@ -37,12 +37,13 @@ use Rattle.perm_catalog.specs.Stored.{IsFresh, IsSoundMark, mark_of}
 use Rattle.perm_catalog.specs.declared.column.Column.{Column}
 use Rattle.perm_catalog.specs.declared.entries.TableEntry.{TableEntry}
 use Rattle.perm_io.specs.Found.{Found, Read, Missing, TooLong, Failed}
+use Rattle.delete_impact.specs.vanishing.Doomed.{doomed_on}
 use Rattle.name_meaning.specs.declared.answer.Resolved.{Resolved}
 use Rattle.name_meaning.specs.declared.answer.Resolved.TheVariants as r
 use Rattle.statement_meaning.specs.Asking.{asks}
 use Rattle.stored_provenance.specs.Held.{IsHeldTable}
 use Rattle.statement_meaning.specs.Ready.{CanRun, IsReady}
-use Rattle.statement_meaning.specs.Turns.{drawing, counting, identity_of, with_added, add_rows, add_unbroken, answered, copy, goes, row_value, rows_before, rows_deleted, rows_lost, remembered, store_answer, with_answer}
+use Rattle.statement_meaning.specs.Turns.{drawing, counting, identity_of, with_added, add_rows, add_unbroken, answered, copy, row_value, rows_before, rows_deleted, rows_lost, remembered, store_answer, with_answer}
 use Rattle.statement_meaning.proofs.Leaving.{leaves-drawing, leaves-good}
 use Rattle.statement_meaning.specs.laws.Sounder.{AddsAnswer, AsksAt, HaveKinds, RowsHaveKinds, AddsSoundly, StandsSound, KeepsSound}
 
@@ -188,7 +189,7 @@ module _ (new_mark : NewMark) (c : Contents) (sound : IsSound c) where
       (λ made fit. added-turn (codes "INSERT ") at name table.0 made table.1 fit)
   keeps-sound at (r.Delete name condition) some adds =
       let table = known (table_named c name) some in
-      let flags : Outcome (List Bool) = each (goes condition) (rows_at c (identity_of c name)) in
+      let flags : Outcome (List Bool) = each (doomed_on condition) (rows_at c (identity_of c name)) in
       leaves-good IsSound (λ (doomed : List Bool). Unit {0}) at flags (λ doomed. drawing c at (rows_deleted c name doomed)) (any_value flags)
       (λ doomed h. leaves-drawing IsSound c at (counting (codes "DELETE ") (count_by (λ flag. flag) doomed)) (with_fewer_rows c name (identity_of c name) doomed)
       (fewer-sound name table.0 doomed table.1))

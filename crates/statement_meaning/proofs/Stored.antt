@@ -32,7 +32,7 @@ use Rattle.name_meaning.specs.Statements.{alone, columns_of, has_boolean, name_b
 use Rattle.name_meaning.specs.Trees.{set_of_tree}
 use Rattle.name_meaning.specs.declared.rule.Rule.TheVariants as rule
 use Rattle.name_meaning.proofs.Every.{unbroken-not}
-use Rattle.name_meaning.proofs.KindsOf.{kinds-settled_columns}
+use Rattle.name_meaning.proofs.Settled.{settled-kinds}
 use Rattle.name_meaning.proofs.TreeLaws.{query-answer, query-closed, query-wide}
 use Rattle.name_meaning.proofs.Trees.{query-known}
 use Rattle.name_meaning.specs.laws.Formed.{IsAnswer}
@@ -154,7 +154,7 @@ module _ (c : Contents) (sound : IsSound c) (table : Name) (tree : QueryTree) (r
   kinds-are : kinds_of (m.make []) ≡ column_kinds columns
   kinds-are =
       let shown : HasItsKinds m = query-known c tree alone sound query_none in
-      shown.kinds [] ∙ kinds-settled_columns shown.columns
+      shown.kinds [] ∙ settled-kinds shown.columns
       ∙ ap column_kinds_of (sym (ap (λ (o : Option (List OutColumn)). option_map_or settled_columns o []) shown.known))
       ∙ sym (kinds-stored (columns_of m))
 

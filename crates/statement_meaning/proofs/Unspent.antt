@@ -53,12 +53,13 @@ use Rattle.name_meaning.specs.declared.need.Need.TheVariants.{OfKind as of_kind,
 use Rattle.name_meaning.specs.declared.scope.Found.{Found}
 use Rattle.name_meaning.specs.declared.scope.Found.TheVariants as column
 use Rattle.name_meaning.specs.declared.scope.Scope.{Scope}
-use Rattle.name_meaning.proofs.Every.{Every, every-append, every-flat_map, every-map}
+use Rattle.name_meaning.proofs.Every.{every-flat_map, every-map}
 use Rattle.name_meaning.proofs.Induction.{BodyParts, ItemParts, SetParts, SourceParts, CoreParts, Optional, AreKept, kept-part, kept-query}
 use Rattle.name_meaning.specs.declared.rule.Rule.TheVariants as rule
 use Rattle.name_meaning.specs.declared.rule.Rule.{Rule}
 use Rattle.name_meaning.specs.Codes.{code_of}
 use Rattle.sql_tree.specs.Regular.{is_lateral}
+use Rattle.contribution.proofs.WhereGood.{Every, every-append}
 
 abbrev pub IsUnspent : Break → Type 0
 IsUnspent b = b.rule ≢ rule.NumbersSpent

@@ -8,27 +8,17 @@ use Rattle.bag_algebra.specs.declared.query.Query.{Query}
 use Rattle.bag_algebra.specs.declared.query.Query.TheVariants.{Prov}
 use Rattle.perm_catalog.specs.Contents.{Contents}
 use Rattle.perm_catalog.specs.Sound.{IsSound}
-use Rattle.sql_tree.specs.declared.expression.ArmTree.{ArmTree}
-use Rattle.sql_tree.specs.declared.expression.ExprBody.{ExprBody}
-use Rattle.sql_tree.specs.declared.expression.ExprBody.TheFolds.{fold-roll-Core, map-Core}
+use Rattle.sql_tree.specs.declared.expression.ExprBody.TheFolds.{fold-roll-Core}
 use Rattle.sql_tree.specs.declared.expression.ExprBody.TheViews.{out-roll-Core, roll-out-Core}
-use Rattle.sql_tree.specs.declared.expression.ExprStep.{ExprStep}
-use Rattle.sql_tree.specs.declared.expression.ExprTree.{ExprTree}
 use Rattle.sql_tree.specs.declared.query.Core.{Core, out-Core, roll-Core}
-use Rattle.sql_tree.specs.declared.query.SelectItem.{SelectItem}
-use Rattle.sql_tree.specs.declared.query.SetStep.{SetStep}
 use Rattle.sql_tree.specs.declared.query.SetTree.TheVariants as set
-use Rattle.sql_tree.specs.declared.source.FromItem.{FromItem}
-use Rattle.sql_tree.specs.declared.source.FromSource.{FromSource}
-use Rattle.sql_tree.specs.declared.source.FromTree.{FromTree}
-use Rattle.sql_tree.specs.declared.source.JoinStep.{JoinStep}
 use Rattle.sql_tree.specs.declared.query.QueryTree.{QueryTree}
 use Rattle.sql_tree.specs.declared.query.SetTree.{SetTree}
 use Rattle.sql_tree.specs.declared.statement.Statement.{Statement}
 use Rattle.sql_tree.specs.declared.statement.StatementBody.{StatementBody}
 use Rattle.sql_tree.specs.declared.statement.StatementBody.TheVariants as st
-use Rattle.name_meaning.proofs.Equations.{CoreFrame, token, querytree-record, settree-core, settree-chain}
-use Rattle.name_meaning.proofs.Opened.{CoreLayer}
+use Rattle.name_meaning.proofs.Equations.{token, querytree-record, settree-core, settree-chain}
+use Rattle.name_meaning.proofs.Opened.{CoreLayer, shown_core}
 use Rattle.name_meaning.specs.Cores.{BodyPart, core_step}
 use Rattle.name_meaning.specs.Expressions.{Body, StepPart, ArmPart, body_step, arm_step, step_step, expr_step}
 use Rattle.name_meaning.specs.Froms.{SourcePart, FromItemPart, FromPart, JoinPart, source_step, from_item_step, from_step, join_step, names_of, settled_columns}
@@ -45,12 +35,7 @@ use Rattle.statement_meaning.specs.laws.Asks.{AsksFor, HasWord, IsResolved, With
 
 -- ---- the word, from the tree
 
-abbrev core_shown : Contents → CoreLayer → CoreFrame
-core_shown c layer = map-Core ExprBody SelectItem SetTree FromSource ArmTree ExprStep ExprTree Core QueryTree SetStep FromItem FromTree JoinStep
-    Body SelectPart BodyPart SourcePart ArmPart StepPart Part BodyPart QueryPart SetStepPart FromItemPart FromPart JoinPart
-    (body_of c) (item_of c) (set_of_tree c) (source_of c) (arm_of c) (step_of c) (part_of c) (core_of c) (query_of c) (set_step_of c) (from_item_of c) (from_of c) (join_of c) layer
-
-core-opened : (c : Contents) (core : Core) → core_of c core ≡ core_step (core_shown c (out-Core core))
+core-opened : (c : Contents) (core : Core) → core_of c core ≡ core_step (shown_core c (out-Core core))
 unfolding body_of item_of set_of_tree source_of arm_of step_of part_of core_of query_of set_step_of from_item_of from_of join_of
 core-opened c core = ap (core_of c) (sym (roll-out-Core core)) ∙ fold-roll-Core Body SelectPart BodyPart SourcePart ArmPart StepPart Part BodyPart QueryPart SetStepPart FromItemPart FromPart JoinPart
     body_step item_step set_step source_step arm_step step_step expr_step core_step query_step set_step_step (from_item_step c) from_step join_step (out-Core core)
@@ -81,7 +66,7 @@ no_word c tree plain (plain_first first other steps h) =
     ap (λ (part : BodyPart). part.word) (settree-chain c other steps) ∙ no_word c first other h
 
 -- at the front of a whole query the word is no break
-wordless : (c : Contents) (layer : CoreLayer) → (core_step (core_shown c layer)).means alone ≡ (core_step (core_shown c (record layer { provenance = None }))).means alone
+wordless : (c : Contents) (layer : CoreLayer) → (core_step (shown_core c layer)).means alone ≡ (core_step (shown_core c (record layer { provenance = None }))).means alone
 wordless c layer = refl
 
 same-without : (c : Contents) (tree plain : SetTree) → WithoutWord tree plain → (set_of_tree c tree).means alone ≡ (set_of_tree c plain).means alone
@@ -89,7 +74,7 @@ unfolding token
 same-without c tree plain (plain_core core other e) =
     ap (λ (part : BodyPart). part.means alone) (settree-core c core ∙ core-opened c core)
     ∙ wordless c (out-Core core)
-    ∙ ap (λ (layer : CoreLayer). (core_step (core_shown c layer)).means alone) (sym e)
+    ∙ ap (λ (layer : CoreLayer). (core_step (shown_core c layer)).means alone) (sym e)
     ∙ sym (ap (λ (part : BodyPart). part.means alone) (settree-core c other ∙ core-opened c other))
 same-without c tree plain (plain_first first other steps h) =
     ap (λ (part : BodyPart). part.means alone) (settree-chain c first steps)

@@ -26,10 +26,11 @@ use Rattle.name_meaning.specs.declared.answer.Resolved.{Resolved}
 use Rattle.name_meaning.specs.declared.answer.Resolved.TheVariants as r
 use Rattle.statement_meaning.specs.Answers.{Names}
 use Rattle.statement_meaning.specs.Asking.{Asked, Settled, Begins, Explained, asked, asks, unless_broken}
-use Rattle.statement_meaning.specs.Turns.{Turn, Accepted, Refused, Broken, on_good, drawing, counting, identity_of, add_rows, add_unbroken, answered, copy, goes, reads, row_value, rows_before, rows_deleted, rows_going, rows_lost, store_answer, with_added, with_answer}
+use Rattle.statement_meaning.specs.Turns.{Turn, Accepted, Refused, Broken, on_good, drawing, counting, identity_of, add_rows, add_unbroken, answered, copy, reads, row_value, rows_before, rows_deleted, rows_going, rows_lost, store_answer, with_added, with_answer}
 use Rattle.statement_meaning.specs.declared.refusal.StepRefusal.{StepRefusal}
 use Rattle.statement_meaning.specs.declared.refusal.StepRefusal.TheVariants as refusal
 use Rattle.query_laws.proofs.Caused.{Caused, caused-value, caused-denote, caused-each, caused-both}
+use Rattle.delete_impact.specs.vanishing.Doomed.{doomed_on}
 use Rattle.name_meaning.specs.declared.rule.Rule.TheVariants as rule
 
 abbrev pub is_told : StepRefusal → Bool
@@ -72,7 +73,7 @@ drawing-named c at text new = chosen (nat_eq c.next last_number) where
   chosen true = broken-named (broken rule.NumbersSpent at)
   chosen false = tt
 
-goes-caused : (condition : Option Expr) (row : Row) → Caused (goes condition row)
+goes-caused : (condition : Option Expr) (row : Row) → Caused (doomed_on condition row)
 goes-caused None row = tt
 goes-caused (Some condition) row = by_value (value condition row [] []) (caused-value row [] [] condition) where
   by_value : (o : Outcome _) → Caused o → Caused (mapped holds_of o)
@@ -82,8 +83,8 @@ goes-caused (Some condition) row = by_value (value condition row [] []) (caused-
 before-caused : (id : ℕ) (condition : Option Expr) (query : Query) (db : Database) → Caused (rows_before id condition query db)
 before-caused id condition query db =
     caused-both (λ rows doomed. rows) (meaning query db []) (rows_going id condition query db) (caused-denote query db []) (where_read (reads id query)) where
-      where_read : (b : Bool) → Caused (cond b (each (goes condition) (db id)) (Good []))
-      where_read true = caused-each (goes condition) (db id) (goes-caused condition)
+      where_read : (b : Bool) → Caused (cond b (each (doomed_on condition) (db id)) (Good []))
+      where_read true = caused-each (doomed_on condition) (db id) (goes-caused condition)
       where_read false = tt
 
 unbroken-named : (c : Contents) (at : ℕ) (name : List ℕ) (rules : List DataError) (rows : Bag) → HasName (add_unbroken c at name rules rows)
@@ -117,8 +118,8 @@ asks-named c at (r.Insert name rows) =
     (caused-each row_value rows (λ exprs. caused-each (λ (expr : Expr). value expr [] [] []) exprs (λ expr. caused-value [] [] [] expr)))
     (λ made. drawing-named c at (counting (codes "INSERT ") (length made)) (with_added c name made))
 asks-named c at (r.Delete name condition) =
-    on_good-named at (each (goes condition) (rows_at c (identity_of c name))) (λ doomed. drawing c at (rows_deleted c name doomed))
-    (caused-each (goes condition) (rows_at c (identity_of c name)) (goes-caused condition))
+    on_good-named at (each (doomed_on condition) (rows_at c (identity_of c name))) (λ doomed. drawing c at (rows_deleted c name doomed))
+    (caused-each (doomed_on condition) (rows_at c (identity_of c name)) (goes-caused condition))
     (λ doomed. drawing-named c at (counting (codes "DELETE ") (count_by (λ flag. flag) doomed)) (with_fewer_rows c name (identity_of c name) doomed))
 asks-named c at (r.DropTable name) = tt
 asks-named c at (r.DropView name) = tt

@@ -21,14 +21,15 @@ use Rattle.perm_io.specs.Found as found
 use Rattle.sql_tree.specs.declared.statement.Statement.{Statement}
 use Rattle.sql_tree.specs.declared.statement.StatementBody.{StatementBody}
 use Rattle.sql_tree.specs.declared.statement.StatementBody.TheVariants as st
-use Rattle.name_meaning.proofs.Every.{Every}
+use Rattle.contribution.proofs.WhereGood.{Every}
+use Rattle.delete_impact.specs.vanishing.Doomed.{doomed_on}
 use Rattle.name_seen_parts.specs.Seen.{first_or}
 use Rattle.name_meaning.specs.Meanings.{QueryMeant, broken}
 use Rattle.name_meaning.specs.Statements.{answer_of, breaks, columns_of, defined_columns, delete_made, impact_query, kinds_of_table, query_meant, resolved, resolved_body, rows_made, stored_columns}
 use Rattle.name_meaning.specs.declared.answer.Break.{Break}
 use Rattle.statement_meaning.specs.Answers.{TakesTurn}
 use Rattle.statement_meaning.specs.Asking.{Asked, Settled, Begins, Explained, asked, asks, unless_broken}
-use Rattle.statement_meaning.specs.Turns.{Turn, Accepted, Refused, Broken, Meets, Missing, TooLarge, Unfit, Failed, on_good, drawing, counting, identity_of, add_rows, add_unbroken, answered, copy, goes, row_value, rows_before, rows_deleted, rows_lost, store_answer, with_added, with_answer}
+use Rattle.statement_meaning.specs.Turns.{Turn, Accepted, Refused, Broken, Meets, Missing, TooLarge, Unfit, Failed, on_good, drawing, counting, identity_of, add_rows, add_unbroken, answered, copy, row_value, rows_before, rows_deleted, rows_lost, store_answer, with_added, with_answer}
 use Rattle.statement_meaning.specs.declared.refusal.StepRefusal.{StepRefusal}
 use Rattle.statement_meaning.specs.declared.refusal.StepRefusal.TheVariants as refusal
 use Rattle.perm_engine.specs.meaning.Run.{StopsBy, StopsAsked, StopsAt}
@@ -95,7 +96,7 @@ module _ (c : Contents) where
       frugal-on_good at (each row_value (rows_made c (kinds_of_table c table) rows)) (add_rows (codes "INSERT ") c at table.text)
       (λ made. frugal-drawing at (counting (codes "INSERT ") (length made)) (with_added c table.text made) refl)
   thrifty-asks at (st.Delete table condition) =
-      frugal-on_good at (each (goes (delete_made c table condition)) (rows_at c (identity_of c table.text))) (λ doomed. drawing c at (rows_deleted c table.text doomed))
+      frugal-on_good at (each (doomed_on (delete_made c table condition)) (rows_at c (identity_of c table.text))) (λ doomed. drawing c at (rows_deleted c table.text doomed))
       (λ doomed. frugal-drawing at (counting (codes "DELETE ") (count_by (λ flag. flag) doomed)) (with_fewer_rows c table.text (identity_of c table.text) doomed) refl)
   thrifty-asks at (st.DropTable table) = omega arith
   thrifty-asks at (st.DropView view) = omega arith

@@ -23,7 +23,7 @@ use Rattle.bag_algebra.specs.declared.query.Query.{Query}
 use Rattle.bag_algebra.specs.declared.query.Query.TheVariants.{Project}
 use Rattle.contribution.proofs.QueryKinds.{denote-fits, each-all}
 use Rattle.contribution.proofs.RowKinds.{RowFits, row_fits-length}
-use Rattle.contribution.proofs.WhereGood.{Each, WhereGood}
+use Rattle.contribution.proofs.WhereGood.{Every, WhereGood}
 use Rattle.rewrite_core.proofs.Places.{at-between, within-range}
 use Rattle.simpler_laws.proofs.ColumnItems.{columns-kinds, columns-within, meaning-columns}
 use Rattle.simpler_laws.specs.Lowered.{AreColumns}
@@ -45,7 +45,7 @@ pub record Picks (query under : Query) (places : List ℕ) : Type 1 where
 pub picks-columns : (under : Query) (items : List Item) (places : List ℕ) → AreColumns items places → Picks (Project under items []) under places
 picks-columns under items places are =
     let inside : (outer : List (List Kind)) → WellFormed outer (Project under items []) →
-    Each (λ (item : Item). HasKind (kinds_of under ∷ outer) [] item.expr item.kind) items =
+    Every (λ (item : Item). HasKind (kinds_of under ∷ outer) [] item.expr item.kind) items =
     λ outer f. each-all (λ (item : Item). HasKind (kinds_of under ∷ outer) [] item.expr item.kind) items (by (WellFormed-Project outer under items []) f).items in
     record {
       plain = λ h. sym (and_true (is_plain under)) ∙ sym (is_plain-Project under items []) ∙ h;
@@ -65,11 +65,11 @@ all-values : (u : Row) (width : ℕ) → length u ≡ width → picked (range_wi
 all-values u width long = ap (picked (range_with_len 0 width)) (sym (append-nil u)) ∙ at-between Null [] u [] 0 width refl long
 
 module _ (kinds : List Kind) where
-  each-itself : (us : Bag) → Each (RowFits kinds) us → map (picked (range_with_len 0 (length kinds))) us ≡ us
+  each-itself : (us : Bag) → Every (RowFits kinds) us → map (picked (range_with_len 0 (length kinds))) us ≡ us
   each-itself [] h = refl
   each-itself (u ∷ us) h = λ i. all-values u (length kinds) (row_fits-length u kinds h.0.fit) i ∷ each-itself us h.1 i
 
-  rows-itself : (o : Outcome Bag) → WhereGood (Each (RowFits kinds)) o → o ≡ mapped (map (picked (range_with_len 0 (length kinds)))) o
+  rows-itself : (o : Outcome Bag) → WhereGood (Every (RowFits kinds)) o → o ≡ mapped (map (picked (range_with_len 0 (length kinds)))) o
   rows-itself (Good us) h = ap Good (sym (each-itself us h))
   rows-itself (Bad faults) h = refl
 

@@ -24,6 +24,7 @@ use Rattle.tree_texts.specs.Trees.{AreItems, IsCore, IsQuery, an_item_tree, no_i
 use Rattle.query_texts.specs.clauses.Names.{outermost}
 use Rattle.query_texts.specs.declared.clauses.tables.TableNames.{TableNames}
 use Rattle.query_texts.specs.forms.ShownQueries.{Framed, called, called_from, framed, selected, shown_answer, sources}
+use Rattle.name_meaning.proofs.Settled.{named-names}
 use Rattle.sql_printer.specs.rows.Printed.{Readings, columns_from, or_unread, printed_answer, readings, unread_item}
 use Rattle.sql_printer.specs.rows.PrintedExpressions.{before}
 use Rattle.sql_printer.specs.rows.Writable.{WritableQuery}
@@ -62,11 +63,6 @@ module _ (c : Contents) (has_from : Bool) (scope : Scope) (here : Surroundings) 
       item-read c has_from scope here items names kind all (λ n. Col 0 (before (front ∷ []) 0 + place))
       (λ n. columns_from (suc (before (front ∷ []) 0 + place)) all) [] [] 0 d (λ tree e. plain-tree c tt e)
       (λ tree e. column-read c here (marks 1) (own ∷ []) (front ∷ []) finds outside 0 place kind (sym (ap (slice_get own) at_place) ∙ kinds_are 0 kind refl) e) others refl
-
-names-known : (names : List (List ℕ)) (all : List Kind) → length names ≡ length all → names_of (named_columns names all) ≡ names
-names-known [] all same = refl
-names-known (name ∷ names) [] same = absurd (omega (arith, same))
-names-known (name ∷ names) (kind ∷ all) same = ap (λ more. name ∷ more) (names-known names all (omega (arith, same)))
 
 wide : (names : List (List ℕ)) (all : List Kind) → length names ≡ length all → length (out_columns names all) ≡ length names
 wide [] all same = refl
@@ -118,5 +114,5 @@ module _ (c : Contents) (tables : List TableNames) (q : Query) (kind : Kind) (mo
       let known : columns_of (query_meant c tree) ≡ named_columns all own = ap (λ columns. option_map_or settled_columns columns []) r.0.columns ∙ columns-settled all own in
       record {
         whole = r.0.breaks;
-        same = λ i. record { query = r.0.make [] i; names = (ap names_of known ∙ names-known all own same) i; keys = r.1 i };
+        same = λ i. record { query = r.0.make [] i; names = (ap names_of known ∙ named-names all own same) i; keys = r.1 i };
       }

@@ -5,7 +5,6 @@ use Rattle.perm_values.specs.declared.kind.Kind.{Kind}
 use Rattle.perm_values.specs.declared.kind.Kind.TheVariants as kinds
 use Rattle.bag_algebra.specs.declared.query.Query.TheVariants.{Single}
 use Rattle.perm_catalog.specs.Changes.{table_named, view_named}
-use Rattle.perm_catalog.specs.Columns.{column_kinds}
 use Rattle.perm_catalog.specs.Contents.{Contents}
 use Rattle.perm_catalog.specs.declared.column.Column.{Column}
 use Rattle.perm_catalog.specs.declared.entries.TableEntry.{TableEntry}
@@ -17,6 +16,7 @@ use Rattle.sql_tree.specs.declared.source.FromSource.TheVariants.{Named}
 use Rattle.sql_tree.specs.declared.source.FromTree.{FromTree}
 use Rattle.sql_tree.specs.declared.source.ScopeMark.TheVariants.{Plain}
 use Rattle.name_meaning.proofs.Equations.{fromitem-record, fromsource-named, token}
+use Rattle.name_meaning.proofs.Settled.{table-kinds}
 use Rattle.name_meaning.specs.Cores.{distinct_if, has_some}
 use Rattle.name_meaning.specs.Froms.{FromItemPart, first_item, from_all, in_clause, in_from, item_meant, read_nothing, read_table, read_view, table_columns, table_plain, names_of as names}
 use Rattle.name_meaning.specs.Meanings.{Around, Surroundings}
@@ -92,10 +92,6 @@ names-known : (columns : List Column) → names (table_columns columns) ≡ map 
 names-known [] = refl
 names-known (column ∷ columns) = ap (λ more. column.name ∷ more) (names-known columns)
 
-kinds-known : (columns : List Column) → column_kinds_of (table_columns columns) ≡ column_kinds columns
-kinds-known [] = refl
-kinds-known (column ∷ columns) = ap (λ more. column.kind ∷ more) (kinds-known columns)
-
 pub table-read : (c : Contents) (tables : List TableNames) (id : ℕ) (own : List Kind) → IsNamed c tables id own → (around : Around) (distinct : Bool) (out first : ℕ) (tree : Core)
     → IsCore (of_table (names_of tables id) distinct (naming (marks out) first)) tree
     → CoreRead c around (listed_names out first own) (shown_kinds own) (distinct_if distinct (given_of own 0 (source_in c tables id own))) tree
@@ -103,7 +99,7 @@ table-read c tables id own n around distinct out first tree d =
     let name = (names_of tables id).name in
     let columns = table_columns n.table.columns in
     let called : (names_of tables id).columns ≡ names columns = sym (names-known n.table.columns ∙ n.columns_are) in
-    let kinds_are : column_kinds_of columns ≡ own = kinds-known n.table.columns ∙ n.kinds_are in
+    let kinds_are : column_kinds_of columns ≡ own = table-kinds n.table.columns ∙ n.kinds_are in
     let source : table_plain name n.table ≡ source_in c tables id own = sym (ap (λ entry. option_map_or (table_plain name) entry Single) n.found) in
     let o = opened-plain c (subst (λ all. IsCore (selected distinct (listed (naming (marks out) first) one (map (λ name. f.column (f.bare name)) all)) (f.from (f.table name) f.no_joins) f.no_condition []) tree) called d) in
     let has = has_some (map (from_of c) o.sources) in
