@@ -381,7 +381,8 @@ fn push_answer(tables: &[TableNames], answer: &Answer, draft: &mut Draft) -> Res
 /// The text of a query with the names of its columns and the order of its rows, where PROVENANCE is taken out of it; what its
 /// tables are called is given. It fails only for want of memory.
 pub fn query_text(alloc: Global, tables: &[TableNames], answer: &Answer) -> Result<Bytes, NoMemory>
-    ensures { IfOk result (λ text. text ≡ answer_bytes tables.now answer.now.query answer.now.names answer.now.keys) }
+    ensures { IfOk result (λ text. text
+        ≡ answer_bytes tables.now answer.now.query answer.now.names answer.now.keys) }
 {
     let mut text = Draft::new(alloc);
     push_answer(tables, answer, &mut text)?;

@@ -119,7 +119,8 @@ pub(crate) fn distinct_standing(
     alloc: Global,
     input: Result<Query, NoMemory>,
 ) -> Result<Query, NoMemory>
-    ensures { (q : Query) → IfOk input (λ b. StandsClosed q b) → IfOk result (λ p. StandsClosed (Distinct q) p) }
+    ensures { (q : Query) → IfOk input (λ b. StandsClosed q b) →
+        IfOk result (λ p. StandsClosed (Distinct q) p) }
 {
     let input = input?;
     Query::distinct(alloc, input)
@@ -158,7 +159,8 @@ pub(crate) fn provenance_standing(
     alloc: Global,
     rewriting: Result<Query, NoMemory>,
 ) -> Result<Query, NoMemory>
-    ensures { (q : Query) → IfOk rewriting (λ r. RewritesClosed q r) → IfOk result (λ p. StandsClosed (Prov q) p) }
+    ensures { (q : Query) → IfOk rewriting (λ r. RewritesClosed q r) →
+        IfOk result (λ p. StandsClosed (Prov q) p) }
 {
     let rewriting = rewriting?;
     Query::distinct(alloc, rewriting)

@@ -36,7 +36,8 @@ pub(crate) fn with_contributions(
     requires plain { Like rows rows }
     requires standing { SubsStand subs.now standing.now }
     requires traced { SubsTraced subs.now rewritings.now }
-    ensures { IfOk result (λ p. Like (all_moved condition.now 0 rows subs.now standing.now rewritings.now) p) }
+    ensures { IfOk result (λ p.
+        Like (all_moved condition.now 0 rows subs.now standing.now rewritings.now) p) }
 {
     let mut whole = rows;
     for at in 0..subs.len() {

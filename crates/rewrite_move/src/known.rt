@@ -143,7 +143,8 @@ fn columns_and_operand(
     standing: &Sublink,
     operand: &Expr,
 ) -> Result<List<Item>, NoMemory>
-    ensures { IfOk result (λ items. items ≡ beside_row rows.now (operand_item standing.now operand.now ∷ [])) }
+    ensures { IfOk result (λ items. items
+        ≡ beside_row rows.now (operand_item standing.now operand.now ∷ [])) }
 {
     let mut last = List::new(alloc);
     last.push(operand_item(alloc, standing, operand)?)?;

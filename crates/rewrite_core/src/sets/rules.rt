@@ -65,7 +65,8 @@ pub fn intersect(
     right: &Query,
     right_rewriting: Query,
 ) -> Result<Query, NoMemory>
-    ensures rewrites { IfOk result (λ p. IsRewrite left.now left_rewriting → IsRewrite right.now right_rewriting →
+    ensures rewrites { IfOk result (λ p.
+        IsRewrite left.now left_rewriting → IsRewrite right.now right_rewriting →
         IsRewrite (Intersect all left.now right.now) p) }
     ensures none_open { IfOk result (λ p. NoOpenSublink left_rewriting → NoOpenSublink right_rewriting →
         NoOpenSublink p) }

@@ -153,8 +153,8 @@ fn pairs_rewritten(
     requires left { IsRewrite left.now left_rewriting.now }
     requires right { IsRewrite right.now right_rewriting.now }
     ensures rewrites { IfOk result (λ p. IsRewrite (Join Inner left.now right.now always []) p) }
-    ensures none_open { IfOk result (λ p. NoOpenSublink left_rewriting.now → NoOpenSublink right_rewriting.now →
-        NoOpenSublink p) }
+    ensures none_open { IfOk result (λ p.
+        NoOpenSublink left_rewriting.now → NoOpenSublink right_rewriting.now → NoOpenSublink p) }
 {
     // the pairs on which the sublinks are evaluated are those of an inner join, whatever the kind: beside candidates a row of a
     // kept side would be unmatched with one and not with another
