@@ -38,7 +38,8 @@ fn is_one(columns: &[ShownColumn]) -> bool
     columns.len() == 1
 }
 
-fn kind_of_first(columns: &[ShownColumn]) -> Option<Kind>
+/// The kind of the first column; none where there is no column, and where that one is of any kind. It takes no memory.
+pub fn kind_of_first(columns: &[ShownColumn]) -> Option<Kind>
     ensures { result ≡ kind_of_first columns.now }
 {
     match columns.first() {

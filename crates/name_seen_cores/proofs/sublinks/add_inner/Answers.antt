@@ -11,5 +11,5 @@ pub returns-in-Ok : goal.returns-in-Ok
 returns-in-Ok c = λ q whole.
     inner-is q c.args.shown c.args.facts.now _ _ whole
     (c.is_one-one.ensures ∙ ap (λ (columns : List ShownColumn). nat_eq (length columns) 1) c.as_slice.ensures)
-    (c.first_shown-kind.ensures ∙ ap kind_of_first c.as_slice-2.ensures)
+    (c.kind_of_first-kind.ensures ∙ ap kind_of_first c.as_slice-2.ensures)
     c.in-Ok.ensures
