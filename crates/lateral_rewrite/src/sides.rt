@@ -7,10 +7,10 @@ ghost use Rattle.lateral_rewrite.specs.Dependent.{beside, chosen_provenance, cho
 
 use crate::choices::Choice;
 use crate::chosen::contributes;
-use bag_algebra::{Expr, Item, Query, Sublink};
+use bag_algebra::{Expr, Item, Query, Sublink, exact_width};
 use contribution::{kind_or_text, kinds, outwards, selection};
 use perm_values::{Copyable, Kind, List, NoMemory, both};
-use rewrite_core::{columns_kept, exact_width};
+use rewrite_core::columns_kept;
 use rewrite_sublink::beside_row;
 use std::alloc::Global;
 

@@ -20,17 +20,16 @@ use Rattle.name_meaning.specs.Queries.{SetStepPart, set_step, set_step_step, que
 use Rattle.name_meaning.specs.Sublinks.{aggregate_name}
 use Rattle.name_meaning.specs.Trees.{body_of, item_of, set_of_tree, source_of, arm_of, step_of, part_of, core_of, query_of, set_step_of, from_item_of, from_of, join_of}
 use Rattle.name_meaning.proofs.Equations.{token, exprbody-aggregate-none, exprbody-aggregate-some, exprbody-column, exprbody-paren, exprtree-record}
-use Rattle.name_meaning.proofs.Opened.{shown_body}
+use Rattle.name_meaning.proofs.Opened.{shown_body, opened_body}
 use Rattle.name_seen_cores.specs.Shown.{called_at, name_or}
 
-body-is : (c : Contents) (body : ExprBody) → body_of c body ≡ body_step (shown_body c (out-ExprBody body))
 unfolding body_of item_of set_of_tree source_of arm_of step_of part_of core_of query_of set_step_of from_item_of from_of join_of
-body-is c body = ap (body_of c) (sym (roll-out-ExprBody body)) ∙ fold-roll-ExprBody Body SelectPart BodyPart SourcePart ArmPart StepPart Part BodyPart QueryPart SetStepPart FromItemPart FromPart JoinPart
+opened_body c body = ap (body_of c) (sym (roll-out-ExprBody body)) ∙ fold-roll-ExprBody Body SelectPart BodyPart SourcePart ArmPart StepPart Part BodyPart QueryPart SetStepPart FromItemPart FromPart JoinPart
     body_step item_step set_step source_step arm_step step_step expr_step core_step query_step set_step_step (from_item_step c) from_step join_step (out-ExprBody body)
 
 no-name : (c : Contents) (body : ExprBody) → ((r : ColRef) → body ≡ e.Column r → ⊥) → ((p : ExprTree) → body ≡ e.Paren p → ⊥)
     → ((w : AggWord) (o : Option ExprTree) → body ≡ e.Aggregate w o → ⊥) → (body_of c body).called ≡ None
-no-name c body no_column no_paren no_aggregate = ap (λ (b : Body). b.called) (body-is c body) ∙ by-layer (out-ExprBody body) refl where
+no-name c body no_column no_paren no_aggregate = ap (λ (b : Body). b.called) (opened_body c body) ∙ by-layer (out-ExprBody body) refl where
   rolled : (layer : BodyLayer) → out-ExprBody body ≡ layer → body ≡ roll-ExprBody layer
   rolled layer is = sym (roll-out-ExprBody body) ∙ ap roll-ExprBody is
 

@@ -9,8 +9,8 @@ ghost use Rattle.rewrite_core.specs.rewritings.KeptColumns.{pairs_of, columns_ke
 ghost use Rattle.rewrite_core.specs.rewritings.OpenSublinks.{NoOpenSublink};
 ghost use Rattle.rewrite_core.specs.SameGroups.{same_groups};
 
-use crate::rewritings::{exact_width, join_kept, sum};
-use bag_algebra::{Aggr, Expr, Query};
+use crate::rewritings::{join_kept, sum};
+use bag_algebra::{Aggr, Expr, Query, exact_width};
 use contribution::{outwards, same_columns};
 use perm_values::{List, NoMemory, both};
 use std::alloc::Global;

@@ -39,7 +39,6 @@ use Rattle.query_laws.specs.Standing.{SubStands, SubsStand}
 use Rattle.rewrite_core.proofs.Itself.{stands-itself}
 use Rattle.rewrite_core.specs.rewritings.KeptColumns.{kept_places}
 use Rattle.rewrite_move.proofs.BelowGroups.{formed-below, shape-below}
-use Rattle.rewrite_move.proofs.Contributed.{existing}
 use Rattle.rewrite_move.proofs.Forcing.{Held, met-held}
 use Rattle.rewrite_move.proofs.KnownValues.{KnownValue, all_known_step, step-known}
 use Rattle.rewrite_move.proofs.MatchingSteps.{matching_step}
@@ -54,7 +53,7 @@ use Rattle.rewrite_sublink.proofs.AllSublinks.{Splits, no_step, one_step_given}
 use Rattle.rewrite_sublink.proofs.FilterRows.{rewrite-Filter_given}
 use Rattle.rewrite_sublink.proofs.ProjectRows.{rewrite-Project_with}
 use Rattle.rewrite_sublink.proofs.Steps.{SubsFitting, OnRows, Step, StepGiven, Steps, StepsGiven}
-use Rattle.rewrite_sublink.specs.Candidates.{answer_columns, beside_row}
+use Rattle.rewrite_sublink.specs.Candidates.{answer_columns, beside_row, exists_in}
 
 -- without a left operand nothing is compared
 contributed-untested : (choice : Option Choice) (rows : Query) (stand : Sublink) (r : Query) → contributed_by choice None rows stand r ≡ all_beside rows stand r
@@ -71,10 +70,10 @@ module _ (sub stand : Sublink) (r : Query) (s : SubStands sub stand) (rewritten 
   of_kind : (kind : SubKind) → sub.kind ≡ kind → IsRewrite (below_by kind sub.query) r
   of_kind kind e = subst (λ k. IsRewrite (below_by k sub.query) r) e rewritten
 
-  below_step : (kind : SubKind) → sub.kind ≡ kind → traced_by kind sub ≡ existing (below_groups sub.query) → IsRewrite (below_groups sub.query) r → Step sub below_rows
+  below_step : (kind : SubKind) → sub.kind ≡ kind → traced_by kind sub ≡ exists_in (below_groups sub.query) → IsRewrite (below_groups sub.query) r → Step sub below_rows
   below_step kind e traced below =
       traced-step sub below_rows
-      (subst (λ other. Step other below_rows) (sym (ap (λ k. traced_by k sub) e ∙ traced)) (plain_step (existing (below_groups sub.query)) r refl below))
+      (subst (λ other. Step other below_rows) (sym (ap (λ k. traced_by k sub) e ∙ traced)) (plain_step (exists_in (below_groups sub.query)) r refl below))
 
   -- ---- EXISTS
 

@@ -14,13 +14,13 @@ use crate::below::traced;
 use crate::forced::forces;
 use crate::known::{beside_matching, beside_nothing};
 use crate::share::{Share, share_of};
-use bag_algebra::{Expr, Query, Sublink};
+use bag_algebra::{Expr, Query, Sublink, exact_width};
 use contribution::always;
 use lateral_rewrite::{Choice, choice_of, chosen_provenance, valued};
 use null_logic::Truth;
 use perm_values::{Copyable, NoMemory};
 use query_laws::beside;
-use rewrite_core::{columns_kept, exact_width};
+use rewrite_core::columns_kept;
 use std::alloc::Global;
 
 /// The rows, and for each sublink in turn its contributions, from a rewriting of what is traced for it. The condition is true of each

@@ -18,7 +18,7 @@ use Rattle.sql_tree.specs.declared.statement.Statement.{Statement}
 use Rattle.sql_tree.specs.declared.statement.StatementBody.{StatementBody}
 use Rattle.sql_tree.specs.declared.statement.StatementBody.TheVariants as st
 use Rattle.name_meaning.proofs.Equations.{token, querytree-record, settree-core, settree-chain}
-use Rattle.name_meaning.proofs.Opened.{CoreLayer, shown_core}
+use Rattle.name_meaning.proofs.Opened.{CoreLayer, shown_core, opened_core}
 use Rattle.name_meaning.specs.Cores.{BodyPart, core_step}
 use Rattle.name_meaning.specs.Expressions.{Body, StepPart, ArmPart, body_step, arm_step, step_step, expr_step}
 use Rattle.name_meaning.specs.Froms.{SourcePart, FromItemPart, FromPart, JoinPart, source_step, from_item_step, from_step, join_step, names_of, settled_columns}
@@ -35,13 +35,12 @@ use Rattle.statement_meaning.specs.laws.Asks.{AsksFor, HasWord, IsResolved, With
 
 -- ---- the word, from the tree
 
-core-opened : (c : Contents) (core : Core) → core_of c core ≡ core_step (shown_core c (out-Core core))
 unfolding body_of item_of set_of_tree source_of arm_of step_of part_of core_of query_of set_step_of from_item_of from_of join_of
-core-opened c core = ap (core_of c) (sym (roll-out-Core core)) ∙ fold-roll-Core Body SelectPart BodyPart SourcePart ArmPart StepPart Part BodyPart QueryPart SetStepPart FromItemPart FromPart JoinPart
+opened_core c core = ap (core_of c) (sym (roll-out-Core core)) ∙ fold-roll-Core Body SelectPart BodyPart SourcePart ArmPart StepPart Part BodyPart QueryPart SetStepPart FromItemPart FromPart JoinPart
     body_step item_step set_step source_step arm_step step_step expr_step core_step query_step set_step_step (from_item_step c) from_step join_step (out-Core core)
 
 core-word : (c : Contents) (core : Core) → (core_of c core).word ≡ (out-Core core).provenance
-core-word c core = ap (λ (part : BodyPart). part.word) (core-opened c core)
+core-word c core = ap (λ (part : BodyPart). part.word) (opened_core c core)
 
 word-at : (c : Contents) (at : ℕ) (tree : SetTree) → HasWord at tree → (set_of_tree c tree).word ≡ Some at
 unfolding token
@@ -72,10 +71,10 @@ wordless c layer = refl
 same-without : (c : Contents) (tree plain : SetTree) → WithoutWord tree plain → (set_of_tree c tree).means alone ≡ (set_of_tree c plain).means alone
 unfolding token
 same-without c tree plain (plain_core core other e) =
-    ap (λ (part : BodyPart). part.means alone) (settree-core c core ∙ core-opened c core)
+    ap (λ (part : BodyPart). part.means alone) (settree-core c core ∙ opened_core c core)
     ∙ wordless c (out-Core core)
     ∙ ap (λ (layer : CoreLayer). (core_step (shown_core c layer)).means alone) (sym e)
-    ∙ sym (ap (λ (part : BodyPart). part.means alone) (settree-core c other ∙ core-opened c other))
+    ∙ sym (ap (λ (part : BodyPart). part.means alone) (settree-core c other ∙ opened_core c other))
 same-without c tree plain (plain_first first other steps h) =
     ap (λ (part : BodyPart). part.means alone) (settree-chain c first steps)
     ∙ ap (λ (m : QueryMeant). set_chain alone m (map (set_step_of c) steps)) (same-without c first other h)

@@ -7,7 +7,7 @@ ghost use Rattle.query_laws.specs.spines.Spines.{IsBeside, IsJoined, IsSpine, al
 ghost use Rattle.query_laws.specs.spines.Spines.{spine_join, test_of};
 
 use crate::spines::spine::{Spine, items_behind, spine_of};
-use bag_algebra::{Expr, Item, JoinKind, Query, width};
+use bag_algebra::{Expr, Item, JoinKind, Query, exact_width};
 use contribution::{always, join_on, kinds, outwards, projection};
 use perm_values::{List, NoMemory};
 use std::alloc::Global;
@@ -47,17 +47,6 @@ fn spine_beside(alloc: Global, rows: &Query, right: &Query) -> Result<Option<Spi
     }
     drop(spine);
     Ok(None)
-}
-
-/// The number of columns. Want of memory comes where it isn't below `usize::MAX`, at which `width` stays.
-fn exact_width(query: &Query) -> Result<usize, NoMemory>
-    ensures { IfOk result (λ count. count ≡ width_of query.now) }
-{
-    let count = width(query);
-    if count == usize::MAX {
-        return Err(NoMemory);
-    }
-    Ok(count)
 }
 
 /// Whether all items are columns behind so many others.

@@ -6,10 +6,10 @@ ghost use Rattle.bag_algebra.specs.declared.query.Query.TheVariants.{Except, Int
 ghost use Rattle.bag_algebra.specs.declared.query.Query.{Query};
 ghost use Rattle.rewrite_core.specs.rewritings.OpenSublinks.{NoOpenSublink};
 
-use crate::rewritings::{exact_width, join_on_first_columns};
+use crate::rewritings::join_on_first_columns;
 use crate::sets::columns::columns_of;
 use crate::sets::others::{Counted, beside_others, remaining};
-use bag_algebra::Query;
+use bag_algebra::{Query, exact_width};
 use perm_values::{Key, List, NoMemory, both};
 use std::alloc::Global;
 

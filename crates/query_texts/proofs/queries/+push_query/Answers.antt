@@ -117,7 +117,7 @@ push_query-returns-in_ok-push_listed-in-Limit t c =
     let frame = c.args.frame.now in
     when-ok c.push_limit.result c.push_limit.ensures
     (limit_pushed frame.tables.now frame.prefix.now (called_in frame) c.args.draft.now c.args.query.now c.in-Limit.input _ _ c.in-Limit.keys _ c.in-Limit.count
-    _ _ _ _ c.in-Limit.is c.get-in-Limit.ensures c.in_ok-columns-in-Limit.ensures c.get-in-Limit-2.ensures c.as_slice-in-Limit.ensures
+    _ _ _ _ c.in-Limit.is c.get-in-Limit.ensures c.in_ok-columns-in-Limit.ensures.columns c.get-in-Limit-2.ensures c.as_slice-in-Limit.ensures
     c.in_ok-push-in-Limit.ensures c.in_ok-push_listed-in-Limit.ensures)
 
 pub push_query-returns-in-Prov : goal.push_query-returns-in-Prov
@@ -216,7 +216,7 @@ push_all-returns t c =
     let columns = columns_text frame.prefix.now (called_in frame) in
     when-ok c.push_bare.result c.push_bare.ensures
     (laid2 c.args.draft.now _ _ (columns (width_of c.args.query.now)) (block_part frame.tables.now frame.prefix.now c.args.query.now)
-    (c.in_ok-push_columns.ensures ∙ ap (λ count. c.args.draft.now ++ columns count) c.in_ok-count.ensures))
+    (c.in_ok-push_columns.ensures ∙ ap (λ count. c.args.draft.now ++ columns count) c.in_ok-count.ensures.columns))
 
 -- ---- FROM and WHERE
 
@@ -234,7 +234,7 @@ push_bare-returns-in_ok-push_joined-in-Join t c =
     when-ok c.push_condition.result c.push_condition.ensures
     (join_pushed frame.tables.now frame.prefix.now c.args.draft.now c.args.query.now c.in-Join.kind c.in-Join.left c.in-Join.right _ _ _
     c.in-Join.condition c.in-Join.subs _ _ _ _ _ _ _ c.in-Join.is c.as_slice-in-Join.ensures c.in_ok-texts-in-Join.ensures c.as_slice-in-Join-2.ensures
-    c.get-in-Join.ensures c.in_ok-before-in-Join.ensures c.get-in-Join-2.ensures c.get-in-Join-3.ensures c.in_ok-push_left-in-Join.ensures
+    c.get-in-Join.ensures c.in_ok-before-in-Join.ensures.columns c.get-in-Join-2.ensures c.get-in-Join-3.ensures c.in_ok-push_left-in-Join.ensures
     c.in_ok-push_joined-in-Join.ensures)
 
 pub push_bare-returns-in_ok-push_from-in-Apply : goal.push_bare-returns-in_ok-push_from-in-Apply
@@ -242,7 +242,7 @@ push_bare-returns-in_ok-push_from-in-Apply t c =
     let frame = c.args.frame.now in
     when-ok c.push_lateral.result c.push_lateral.ensures
     (apply_pushed frame.tables.now frame.prefix.now c.args.draft.now c.args.query.now c.in-Apply.kind c.in-Apply.left c.in-Apply.right _ _ _
-    _ _ _ c.in-Apply.is c.get-in-Apply.ensures c.in_ok-before-in-Apply.ensures c.get-in-Apply-2.ensures c.get-in-Apply-3.ensures
+    _ _ _ c.in-Apply.is c.get-in-Apply.ensures c.in_ok-before-in-Apply.ensures.columns c.get-in-Apply-2.ensures c.get-in-Apply-3.ensures
     c.in_ok-push_from-in-Apply.ensures)
 
 pub push_bare-returns-in-Table : goal.push_bare-returns-in-Table
@@ -351,7 +351,7 @@ push_listed-returns-in_ok-push_columns t c =
     let columns = columns_text frame.prefix.now (called_in frame) in
     when-ok c.push_over.result c.push_over.ensures (λ last.
     laid2 c.args.draft.now _ _ (columns (width_of c.args.query.now)) (over_bytes frame.tables.now frame.prefix.now c.args.query.now)
-    (c.in_ok-push_columns.ensures ∙ ap (λ count. c.args.draft.now ++ columns count) c.in_ok-count.ensures) last
+    (c.in_ok-push_columns.ensures ∙ ap (λ count. c.args.draft.now ++ columns count) c.in_ok-count.ensures.columns) last
     ∙ ap (λ text. c.args.draft.now ++ text)
     (listed_over frame.tables.now frame.prefix.now (called_in frame) c.args.query.now (sym c.is_select.ensures ∙ c.if-is_select.false)))
 
