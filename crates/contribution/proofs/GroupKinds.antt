@@ -3,10 +3,9 @@ use Rattle.std.proofs.Common.{◌≡◌, ℕ, suc, Bool, true, false, cond, not,
 use Rattle.std.specs.Prelude.{⊤, ℤ}
 use Rattle.std.specs.Ordering.{ordering_reverse}
 use Rattle.null_logic.specs.Arithmetic.{fits_64}
-use Rattle.null_logic.specs.Comparison.{is_null}
 use Rattle.null_logic.specs.declared.run_fault.RunFault.TheVariants.{OutOfRange}
 use Rattle.perm_values.specs.Rows.{value_at, picked}
-use Rattle.perm_values.specs.Values.{value_cmp}
+use Rattle.perm_values.specs.Values.{value_cmp, is_null}
 use Rattle.perm_values.specs.declared.kind.Kind.{Kind}
 use Rattle.perm_values.specs.declared.kind.Kind.TheVariants as kind
 use Rattle.perm_values.specs.declared.value.Value.{Value}

@@ -1,8 +1,7 @@
 -- A query's meaning rests on the columns that its outer kinds name alone.
 use Rattle.std.proofs.Common.{◌≡◌, ℕ, zero, suc, true, List, [], ◌∷◌, ◌++◌, map, slice_get, Option, Some, None, refl, sym, ap, true≢false}
-use Rattle.null_logic.specs.Comparison.{is_null}
 use Rattle.perm_values.specs.Rows.{value_at}
-use Rattle.perm_values.specs.Values.{fits, same_value}
+use Rattle.perm_values.specs.Values.{fits, same_value, is_null}
 use Rattle.perm_values.specs.declared.kind.Kind.{Kind}
 use Rattle.perm_values.specs.declared.kind.Kind.TheVariants.{Integer, Boolean}
 use Rattle.perm_values.specs.declared.value.Value.{Value}

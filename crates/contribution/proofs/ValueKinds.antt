@@ -3,7 +3,7 @@ use Rattle.std.proofs.Common.{◌≡◌, ℕ, zero, suc, Bool, true, false, cond
 use Rattle.std.specs.Prelude.{⊤}
 use Rattle.std.specs.Prelude.{ℤ, Result, Ok, Err}
 use Rattle.null_logic.specs.Arithmetic.{calculate, negate}
-use Rattle.null_logic.specs.Comparison.{compare_values, is_null, between, in_list}
+use Rattle.null_logic.specs.Comparison.{compare_values, between, in_list}
 use Rattle.null_logic.specs.Logic.{value_of, is_true, truth_of, truth_not}
 use Rattle.null_logic.specs.declared.arith.Arith.{Arith}
 use Rattle.null_logic.specs.declared.operator.Operator.{Operator}
@@ -12,7 +12,7 @@ use Rattle.null_logic.specs.declared.run_fault.RunFault.{RunFault}
 use Rattle.null_logic.specs.declared.truth.Truth.{Truth}
 use Rattle.null_logic.specs.declared.truth.Truth.TheVariants.{True, False, Unknown}
 use Rattle.perm_values.specs.Rows.{value_at, row_fits}
-use Rattle.perm_values.specs.Values.{fits, same_value}
+use Rattle.perm_values.specs.Values.{fits, same_value, is_null}
 use Rattle.perm_values.specs.declared.kind.Kind.{Kind}
 use Rattle.perm_values.specs.declared.kind.Kind.TheVariants as kind
 use Rattle.perm_values.specs.declared.value.Value.{Value}

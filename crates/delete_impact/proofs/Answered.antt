@@ -29,7 +29,7 @@ use Rattle.contribution.proofs.NodeQueries.{plain-chosen, formed-chosen}
 use Rattle.contribution.proofs.Agreement.{joined_lists}
 use Rattle.contribution.proofs.SetsOfRows.{Below, below_good}
 use Rattle.contribution.proofs.SharedMembers.{Within}
-use Rattle.contribution.specs.Conjunctions.{always}
+use Rattle.contribution.specs.Conjunctions.{always, condition_or_true}
 use Rattle.query_facts.specs.monotone.Monotone.{is_monotone}
 use Rattle.query_laws.proofs.Once.{holds_once-once}
 use Rattle.query_laws.specs.Holding.{HoldsOnce}
@@ -38,7 +38,7 @@ use Rattle.delete_impact.specs.vanishing.Vanishing.{Vanishes}
 use Rattle.delete_impact.proofs.Below.{below-within}
 use Rattle.delete_impact.proofs.KeptQueries.{KeptRows}
 use Rattle.delete_impact.proofs.VanishingRows.{kept-of}
-use Rattle.delete_impact.specs.Answering.{adds_none, condition_or_true, looked_through, lost, never, no_row_of, vanishing, with_faults}
+use Rattle.delete_impact.specs.Answering.{adds_none, looked_through, lost, never, no_row_of, vanishing, with_faults}
 use Rattle.delete_impact.specs.reduced.Reads.{Unread, IsRead, first_kinds}
 use Rattle.delete_impact.specs.reduced.Hiding.{hides_none}
 use Rattle.delete_impact.specs.reduced.Reduced.{behind, missing, missing_part, over_rows, reduced}

@@ -5,14 +5,14 @@ use Rattle.std.specs.List.{list_any}
 use Rattle.std.specs.Ordering.{ordering_reverse, is_eq}
 use Rattle.std.specs.declared.cmp.Ordering.{Ordering}
 use Rattle.std.specs.declared.cmp.Ordering.TheVariants as order
-use Rattle.null_logic.specs.Comparison.{holds, is_null, compare_values, mirrored, in_list}
+use Rattle.null_logic.specs.Comparison.{holds, compare_values, mirrored, in_list}
 use Rattle.null_logic.specs.Logic.{truth_or, is_true, known}
 use Rattle.null_logic.specs.declared.compare.Compare.{Compare}
 use Rattle.null_logic.specs.declared.compare.Compare.TheVariants.{Equal, NotEqual, Less, LessEqual, Greater, GreaterEqual}
 use Rattle.null_logic.specs.declared.truth.Truth.{Truth}
 use Rattle.null_logic.specs.declared.truth.Truth.TheVariants.{True, False, Unknown}
 use Rattle.perm_values.specs.ValueLaws.{value_cmp_total, value_ties}
-use Rattle.perm_values.specs.Values.{same_value, value_cmp}
+use Rattle.perm_values.specs.Values.{same_value, value_cmp, is_null}
 use Rattle.perm_values.specs.declared.value.Value.{Value}
 
 holds-mirrored : (op : Compare) (o : Ordering) → holds op o ≡ holds (mirrored op) (ordering_reverse o)

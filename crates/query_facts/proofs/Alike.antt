@@ -4,9 +4,8 @@ use Rattle.std.specs.Prelude.{◌==◌}
 use Rattle.std.proofs.lemmas.Bool.Decides.{nat_tests}
 use Rattle.std.proofs.Math.Nat.{le-max_left, le-max_right}
 use Rattle.std.proofs.lemmas.List.{get_or-take}
-use Rattle.null_logic.specs.Comparison.{is_null}
 use Rattle.perm_values.specs.Rows.{value_at}
-use Rattle.perm_values.specs.Values.{same_value}
+use Rattle.perm_values.specs.Values.{same_value, is_null}
 use Rattle.perm_values.specs.declared.value.Value.{Value}
 use Rattle.perm_values.specs.declared.value.Value.TheVariants.{Boolean, Null}
 use Rattle.bag_algebra.specs.Bags.{Row}

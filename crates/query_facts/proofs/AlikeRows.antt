@@ -5,9 +5,8 @@ use Rattle.std.proofs.lemmas.List.Elements.{All-nil, All-cons, All-head, All-tai
 use Rattle.std.proofs.lemmas.Bool.{or_right}
 use Rattle.std.specs.Prelude.{◌==◌, Bool, true, ◌&&◌, ◌||◌, All}
 use Rattle.std.specs.List.{flat_map, list_any}
-use Rattle.null_logic.specs.Comparison.{is_null}
 use Rattle.perm_values.specs.Rows.{value_at, picked}
-use Rattle.perm_values.specs.Values.{same_value}
+use Rattle.perm_values.specs.Values.{same_value, is_null}
 use Rattle.perm_values.specs.declared.value.Value.{Value}
 use Rattle.perm_values.specs.declared.value.Value.TheVariants.{Boolean, Null}
 use Rattle.bag_algebra.specs.Bags.{Row}

@@ -38,6 +38,7 @@ use Rattle.contribution.proofs.RowKinds.{RowFits, row_fits-length}
 use Rattle.contribution.proofs.SetsOfRows.{mapped-gather}
 use Rattle.contribution.proofs.ValueKinds.{fits-begins}
 use Rattle.contribution.proofs.WhereGood.{each-in}
+use Rattle.contribution.specs.Conjunctions.{condition_or_true}
 use Rattle.contribution.specs.Fitting.{Fitting}
 use Rattle.query_laws.proofs.Grouped.{map-map}
 use Rattle.query_laws.proofs.Inputs.{across}
@@ -45,7 +46,7 @@ use Rattle.query_laws.proofs.StandingSublinks.{gather-on}
 use Rattle.query_laws.proofs.SpineForms.{spine-faultless, spine-fault_free, spine-kinds, spine-tables, base-formed}
 use Rattle.query_laws.proofs.SpineItems.{row_by, items-good, items_faultless-append, items-both, behind-faultless, behind-give, null-behind}
 use Rattle.query_laws.proofs.SpineRows.{where_holds, spine_row, spine-rows}
-use Rattle.query_laws.specs.spines.Spines.{IsSpine, Suits, all_behind, is_behind, items_behind, test_of, spine_join}
+use Rattle.query_laws.specs.spines.Spines.{IsSpine, Suits, all_behind, is_behind, items_behind, spine_join}
 use Rattle.query_laws.specs.declared.spines.spine.Spine.{Spine}
 
 -- ---- lists
@@ -251,7 +252,7 @@ module _ (kind : JoinKind) (left right : Query) (spine : Spine) (outer : List (L
   wide v h = row_fits-length v (kinds_of spine.base) (each-in (RowFits (kinds_of spine.base)) v vs (rows_have-kinds outer spine.base db env vs base-fitting base-good) h).fit
 
   abbrev condition : Row → Outcome Value
-  condition = condition_on (test_of spine.test) env no_subs
+  condition = condition_on (condition_or_true spine.test) env no_subs
 
   abbrev items : List Item
   items = items_behind 0 (kinds_of left) ++ spine.items
@@ -317,7 +318,7 @@ module _ (kind : JoinKind) (left right : Query) (spine : Spine) (outer : List (L
         ∙ gather-on (λ u. mapped (map make) (gather (λ v. kept condition (u ++ v)) vs)) (λ u. mapped (map (λ w. u ++ w)) (found u)) us
         (λ u h. map-gather make (λ v. kept condition (u ++ v)) vs
         ∙ gather-on (λ v. mapped (map make) (kept condition (u ++ v))) (λ v. mapped (map (λ w. u ++ w)) (spine_row spine env (u ++ v))) vs
-        (λ v i. one-met u v h (value (test_of spine.test) (u ++ v) env []))
+        (λ v i. one-met u v h (value (condition_or_true spine.test) (u ++ v) env []))
         ∙ sym (map-gather (λ w. u ++ w) (λ v. spine_row spine env (u ++ v)) vs))
 
     -- a left row that meets none, beside NULLs
@@ -336,7 +337,7 @@ module _ (kind : JoinKind) (left right : Query) (spine : Spine) (outer : List (L
         (λ u. is_some_row (good_rows (found u))) us
         (λ u h. let each_found = good-of (λ u. map (λ w. u ++ w)) found us rows e u h in
         ap (λ o. is_some_row (good_rows o)) each_found.1
-        ∙ found-met (λ v. row_by spine.items env (u ++ v)) (λ v. value (test_of spine.test) (u ++ v) env []) vs each_found.0 each_found.1)
+        ∙ found-met (λ v. row_by spine.items env (u ++ v)) (λ v. value (condition_or_true spine.test) (u ++ v) env []) vs each_found.0 each_found.1)
         (null-made (s refl))
     others-made Right s rows e d = absurd (true≢false (sym d))
     others-made Full s rows e d = absurd (true≢false (sym d))
@@ -367,8 +368,8 @@ module _ (kind : JoinKind) (left right : Query) (spine : Spine) (outer : List (L
   pub rows-spine_join : SameRows (meaning (ApplyOf kind left right) db env) (meaning (spine_join kind left spine) db env)
   rows-spine_join =
       across (rows-with_lists _ _)
-      (meaning-projected (JoinOf kind left spine.base (test_of spine.test) [] end_of-Sublink) items db env
-      ∙ ap (λ o. and_then o (each (items_on items env no_subs))) (meaning-pairs kind left spine.base (test_of spine.test) db env
+      (meaning-projected (JoinOf kind left spine.base (condition_or_true spine.test) [] end_of-Sublink) items db env
+      ∙ ap (λ o. and_then o (each (items_on items env no_subs))) (meaning-pairs kind left spine.base (condition_or_true spine.test) db env
       ∙ ap (λ o. both_then (meaning left db env) o (joined_rows kind condition (width_of left) (width_of spine.base))) base-good))
       (by_left (meaning left db env) refl)
 
@@ -377,7 +378,7 @@ pub bad-spine_join : (kind : JoinKind) (left right : Query) (spine : Spine) (db 
     meaning left db env ≡ Bad faults → meaning (spine_join kind left spine) db env ≡ Bad faults
 bad-spine_join kind left right spine db env faults is e =
     let good = good_rows-is (meaning spine.base db env) (good-query spine.base (spine-fault_free is) db env) in
-    meaning-projected (JoinOf kind left spine.base (test_of spine.test) [] end_of-Sublink) (items_behind 0 (kinds_of left) ++ spine.items) db env
+    meaning-projected (JoinOf kind left spine.base (condition_or_true spine.test) [] end_of-Sublink) (items_behind 0 (kinds_of left) ++ spine.items) db env
     ∙ ap (λ o. and_then o (each (items_on (items_behind 0 (kinds_of left) ++ spine.items) env no_subs)))
-    (meaning-pairs kind left spine.base (test_of spine.test) db env
-    ∙ (λ i. both_then (e i) (good i) (joined_rows kind (condition_on (test_of spine.test) env no_subs) (width_of left) (width_of spine.base))))
+    (meaning-pairs kind left spine.base (condition_or_true spine.test) db env
+    ∙ (λ i. both_then (e i) (good i) (joined_rows kind (condition_on (condition_or_true spine.test) env no_subs) (width_of left) (width_of spine.base))))

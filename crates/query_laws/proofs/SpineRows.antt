@@ -30,12 +30,13 @@ use Rattle.contribution.proofs.Growth.{columns-own, value-same}
 use Rattle.contribution.proofs.NodeQueries.{meaning-chosen, meaning-projected}
 use Rattle.contribution.proofs.ColumnQueries.{all-rest}
 use Rattle.contribution.proofs.SetsOfRows.{mapped-gather}
+use Rattle.contribution.specs.Conjunctions.{condition_or_true}
 use Rattle.contribution.specs.SameColumns.{SameColumns}
 use Rattle.query_laws.proofs.StandingSublinks.{gather-on}
 use Rattle.query_laws.proofs.SpineForms.{spine-faultless}
 use Rattle.query_laws.proofs.SpineItems.{row_by, items-good, behind-give}
 use Rattle.query_laws.specs.spines.PlacedColumns.{ItemsPlaced}
-use Rattle.query_laws.specs.spines.Spines.{IsSpine, closed, filtered, projected, MayFollow, items_behind, tests_with, test_of}
+use Rattle.query_laws.specs.spines.Spines.{IsSpine, closed, filtered, projected, MayFollow, items_behind, tests_with}
 use Rattle.query_laws.specs.declared.spines.spine.Spine.{Spine}
 
 -- ---- outcomes that are looked at one after another
@@ -70,7 +71,7 @@ abbrev pub where_holds : Row → Outcome Value → Outcome Bag
 where_holds t o = mapped (λ v. cond (holds_of v) (t ∷ []) []) o
 
 abbrev pub spine_row : Spine → List Row → Row → Outcome Bag
-spine_row spine env x = where_holds (row_by spine.items env x) (value (test_of spine.test) x env [])
+spine_row spine env x = where_holds (row_by spine.items env x) (value (condition_or_true spine.test) x env [])
 
 kept-twice : (t : Row) (h : Row → Bag) (a b : Bool) → h t ≡ cond b (t ∷ []) [] → flat_map h (cond a (t ∷ []) []) ≡ cond (a && b) (t ∷ []) []
 kept-twice t h true b e = append-nil (h t) ∙ e
@@ -112,8 +113,8 @@ module _ (columns : List Kind) (outer : List (List Kind)) (db : Database) (env :
   -- a condition over what the items make
   filtered-rows : (items : List Item) (test : Option Expr) (condition placed : Expr) → MayFollow test condition →
       ((v : Row) → IsIn v vs → value condition (row_by items env (u ++ v)) (u ∷ env) [] ≡ value placed (u ++ v) env []) →
-      and_then (gather (λ v. where_holds (row_by items env (u ++ v)) (value (test_of test) (u ++ v) env [])) vs) (gather (kept (condition_on condition (u ∷ env) no_subs)))
-      ≡ gather (λ v. where_holds (row_by items env (u ++ v)) (value (test_of (Some (tests_with test placed))) (u ++ v) env [])) vs
+      and_then (gather (λ v. where_holds (row_by items env (u ++ v)) (value (condition_or_true test) (u ++ v) env [])) vs) (gather (kept (condition_on condition (u ∷ env) no_subs)))
+      ≡ gather (λ v. where_holds (row_by items env (u ++ v)) (value (condition_or_true (Some (tests_with test placed))) (u ++ v) env [])) vs
   filtered-rows items None condition placed follows same =
       gather-ones (λ v. row_by items env (u ++ v)) (kept (condition_on condition (u ∷ env) no_subs)) vs
       ∙ gather-on (λ v. kept (condition_on condition (u ∷ env) no_subs) (row_by items env (u ++ v))) (λ v. where_holds (row_by items env (u ++ v)) (value placed (u ++ v) env [])) vs
@@ -138,15 +139,15 @@ module _ (columns : List Kind) (outer : List (List Kind)) (db : Database) (env :
   -- items over what the items make
   projected-rows : (own : List Item) (test : Option Expr) (items placed : List Item) → items_faultless items ≡ true →
       ((v : Row) → IsIn v vs → row_by placed env (u ++ v) ≡ row_by items (u ∷ env) (row_by own env (u ++ v))) →
-      and_then (gather (λ v. where_holds (row_by own env (u ++ v)) (value (test_of test) (u ++ v) env [])) vs) (each (items_on items (u ∷ env) no_subs))
-      ≡ gather (λ v. where_holds (row_by placed env (u ++ v)) (value (test_of test) (u ++ v) env [])) vs
+      and_then (gather (λ v. where_holds (row_by own env (u ++ v)) (value (condition_or_true test) (u ++ v) env [])) vs) (each (items_on items (u ∷ env) no_subs))
+      ≡ gather (λ v. where_holds (row_by placed env (u ++ v)) (value (condition_or_true test) (u ++ v) env [])) vs
   projected-rows own test items placed w same =
       (λ i. and_then (gather found vs) (λ bag. sym (each-gather (items_on items (u ∷ env) no_subs) bag) i))
       ∙ after-gather found (λ t. mapped (λ y. y ∷ []) (items_on items (u ∷ env) no_subs t)) make (λ t. ap (mapped (λ y. y ∷ [])) (items-good items (u ∷ env) t w)) vs
-      ∙ gather-on (λ v. mapped (flat_map make) (found v)) (λ v. where_holds (row_by placed env (u ++ v)) (value (test_of test) (u ++ v) env [])) vs
-      (λ v h. by_test v (value (test_of test) (u ++ v) env []) (same v h)) where
+      ∙ gather-on (λ v. mapped (flat_map make) (found v)) (λ v. where_holds (row_by placed env (u ++ v)) (value (condition_or_true test) (u ++ v) env [])) vs
+      (λ v h. by_test v (value (condition_or_true test) (u ++ v) env []) (same v h)) where
         found : Row → Outcome Bag
-        found v = where_holds (row_by own env (u ++ v)) (value (test_of test) (u ++ v) env [])
+        found v = where_holds (row_by own env (u ++ v)) (value (condition_or_true test) (u ++ v) env [])
 
         make : Row → Bag
         make t = row_by items (u ∷ env) t ∷ []

@@ -2,13 +2,13 @@
 use Rattle.std.proofs.Common.{◌≡◌, ◌≢◌, ◌⊎◌, inl, inr, ℕ, suc, ◌+◌, Bool, true, false, cond, ◌==◌, List, [], ◌∷◌, Option, Some, None, refl, sym, ap, ◌∙◌, subst, arith}
 use Rattle.std.specs.Prelude.{⊤}
 use Rattle.std.proofs.lemmas.Bool.Decides.{eqb_tells}
-use Rattle.null_logic.specs.Comparison.{is_null}
 use Rattle.null_logic.specs.Logic.{truth_and, truth_or, truth_not, truth_of, value_of, is_true, known}
 use Rattle.null_logic.specs.declared.operator.Operator.{Operator}
 use Rattle.null_logic.specs.declared.operator.Operator.TheVariants as op
 use Rattle.null_logic.specs.declared.truth.Truth.{Truth}
 use Rattle.null_logic.specs.declared.truth.Truth.TheVariants.{True, False, Unknown}
 use Rattle.perm_values.specs.Rows.{value_at}
+use Rattle.perm_values.specs.Values.{is_null}
 use Rattle.perm_values.specs.declared.value.Value.{Value}
 use Rattle.perm_values.specs.declared.value.Value.TheVariants.{Boolean}
 use Rattle.bag_algebra.proofs.Outcomes.{both-is, mapped-is, same_good, then-is}

@@ -1,9 +1,9 @@
 -- Sublinks of which a truth is known on the rows: which rows of their queries contribute.
 use Rattle.std.proofs.Common.{◌≡◌, Bool, true, false, not, ◌||◌, List, [], ◌∷◌, Option, Some, refl, sym, ap, ◌∙◌, subst}
-use Rattle.null_logic.specs.Comparison.{is_null}
 use Rattle.null_logic.specs.Logic.{is_true, truth_not, truth_of, value_of}
 use Rattle.null_logic.specs.declared.truth.Truth.{Truth}
 use Rattle.null_logic.specs.declared.truth.Truth.TheVariants.{True, False, Unknown}
+use Rattle.perm_values.specs.Values.{is_null}
 use Rattle.perm_values.specs.declared.kind.Kind.{Kind}
 use Rattle.perm_values.specs.declared.value.Value.{Value}
 use Rattle.bag_algebra.proofs.Outcomes.{same_good}

@@ -2,14 +2,14 @@
 use Rattle.std.proofs.Common.{◌≡◌, Bool, true, false, cond, not, ◌&&◌, ◌||◌, [], ◌∷◌, refl, sym, ap, ◌∙◌}
 use Rattle.std.proofs.Math.Bool.{or_comm}
 use Rattle.std.specs.List.{list_any}
-use Rattle.null_logic.specs.Comparison.{compare_values, holds, is_null}
+use Rattle.null_logic.specs.Comparison.{compare_values, holds}
 use Rattle.null_logic.specs.Logic.{is_true, truth_not, value_of, known}
 use Rattle.null_logic.specs.declared.compare.Compare.TheVariants.{Equal, NotEqual}
 use Rattle.null_logic.specs.declared.truth.Truth.{Truth}
 use Rattle.null_logic.specs.declared.truth.Truth.TheVariants.{True, False, Unknown}
 use Rattle.std.specs.declared.cmp.Ordering.{Ordering}
 use Rattle.std.specs.declared.cmp.Ordering.TheVariants as order
-use Rattle.perm_values.specs.Values.{value_cmp}
+use Rattle.perm_values.specs.Values.{value_cmp, is_null}
 use Rattle.perm_values.specs.declared.value.Value.{Value}
 use Rattle.bag_algebra.specs.Bags.{Bag}
 use Rattle.bag_algebra.specs.Means.{some_of, all_of, cell, comparisons, is_some_row}

@@ -28,12 +28,13 @@ use Rattle.bag_algebra.specs.declared.expr.Expr.TheVariants.{Op}
 use Rattle.bag_algebra.specs.declared.expr.Item.{Item}
 use Rattle.bag_algebra.specs.declared.query.Sublink.{Sublink}
 use Rattle.bag_algebra.specs.declared.query.SubKind.TheVariants.{Any, Exists}
+use Rattle.contribution.specs.Conjunctions.{condition_or_true}
 use Rattle.contribution.proofs.AddedColumns.{columns-added}
 use Rattle.contribution.proofs.Growth.{tested-same}
 use Rattle.contribution.proofs.TruthKept.{some_of-is_true}
 use Rattle.query_laws.proofs.SpineItems.{items-good, row_by}
 use Rattle.query_laws.proofs.SpineRows.{spine_row, where_holds}
-use Rattle.query_laws.specs.spines.Spines.{test_of, tests_with}
+use Rattle.query_laws.specs.spines.Spines.{tests_with}
 use Rattle.query_laws.specs.declared.spines.spine.Spine.{Spine}
 use Rattle.simplifier.specs.Forced.{Asks, compared, for_any, for_some}
 
@@ -121,8 +122,8 @@ compared-is c e f y env x z first second =
     ∙ (λ i. and_then (both (λ v vs. v ∷ vs) (first i) (both (λ v vs. v ∷ vs) (second i) (Good []))) (operate (op.Compare c))))
 
 -- a test and a good one more
-with-met : (test : Option Expr) (other : Expr) (y : Row) (env : List Row) (w : Value) (a : Value) → value (test_of test) y env [] ≡ Good a → value other y env [] ≡ Good w
-    → is_met (value (tests_with test other) y env []) ≡ (is_met (value (test_of test) y env []) && holds_of w)
+with-met : (test : Option Expr) (other : Expr) (y : Row) (env : List Row) (w : Value) (a : Value) → value (condition_or_true test) y env [] ≡ Good a → value other y env [] ≡ Good w
+    → is_met (value (tests_with test other) y env []) ≡ (is_met (value (condition_or_true test) y env []) && holds_of w)
 with-met None other y env w a first second = ap is_met second
 with-met (Some test) other y env w a first second =
     ap is_met (value-Op y env [] op.And (test ∷ other ∷ [])
@@ -135,7 +136,7 @@ module _ (kinds below : List Kind) (outer : List (List Kind)) (sub : Sublink) (s
     (items : items_faultless spine.items ≡ true) (env : List Row) (u : Row) (begins : row_begins u kinds ≡ true)
     (fitting : sub_form sub.kind sub.tested (kinds ∷ outer) below) (vs : Bag) where
   abbrev of_spine : Row → Outcome Value
-  of_spine v = value (test_of spine.test) (u ++ v) env []
+  of_spine v = value (condition_or_true spine.test) (u ++ v) env []
 
   abbrev rows : Outcome Bag
   rows = gather (λ v. spine_row spine env (u ++ v)) vs
@@ -143,10 +144,10 @@ module _ (kinds below : List Kind) (outer : List (List Kind)) (sub : Sublink) (s
   abbrev found : Bool
   found = list_any (λ v. is_met (value on (u ++ v) env [])) vs
 
-  by_rows : (p : Row → Bool) → faultless (test_of spine.test) ≡ true → ((v : Row) → (is_met (of_spine v) && p (row_by spine.items env (u ++ v))) ≡ is_met (value on (u ++ v) env []))
+  by_rows : (p : Row → Bool) → faultless (condition_or_true spine.test) ≡ true → ((v : Row) → (is_met (of_spine v) && p (row_by spine.items env (u ++ v))) ≡ is_met (value on (u ++ v) env []))
       → mapped (list_any p) rows ≡ Good found
   by_rows p still same =
-      any-found (λ v. row_by spine.items env (u ++ v)) of_spine (λ v. good-is (of_spine v) (good-value (test_of spine.test) still (u ++ v) env [])) p vs
+      any-found (λ v. row_by spine.items env (u ++ v)) of_spine (λ v. good-is (of_spine v) (good-value (condition_or_true spine.test) still (u ++ v) env [])) p vs
       ∙ ap Good (any-same (λ v. is_met (of_spine v) && p (row_by spine.items env (u ++ v))) (λ v. is_met (value on (u ++ v) env [])) same vs)
 
   and-true : (b : Bool) → (b && true) ≡ b
@@ -155,7 +156,7 @@ module _ (kinds below : List Kind) (outer : List (List Kind)) (sub : Sublink) (s
 
   asked : Asks sub spine on → Holds (both_then (optional_value sub.tested env u) rows (sub_value sub.kind)) found
   asked (for_some kind none test) =
-      let same : test_of spine.test ≡ on = ap test_of (sym test) in
+      let same : condition_or_true spine.test ≡ on = ap condition_or_true (sym test) in
       subst (λ tested. Holds (both_then (optional_value tested env u) rows (sub_value sub.kind)) found) (sym none)
       (subst (λ k. Holds (both_then (Good Null) rows (sub_value k)) found) (sym kind)
       (exists-holds rows found (by_rows (λ row. true) (ap faultless same ∙ calm) (λ v. and-true (is_met (of_spine v)) ∙ ap (λ e. is_met (value e (u ++ v) env [])) same))))
@@ -173,7 +174,7 @@ module _ (kinds below : List Kind) (outer : List (List Kind)) (sub : Sublink) (s
         with_test : faultless (tests_with spine.test other) ≡ true
         with_test = ap faultless (sym any.test) ∙ calm
 
-        parts : (test : Option Expr) → faultless (tests_with test other) ≡ true → (faultless (test_of test) ≡ true) × (faultless other ≡ true)
+        parts : (test : Option Expr) → faultless (tests_with test other) ≡ true → (faultless (condition_or_true test) ≡ true) × (faultless other ≡ true)
         parts None h = (refl, h)
         parts (Some test) h =
             let all = sym (faultless-Op op.And (test ∷ other ∷ [])) ∙ h in
@@ -201,7 +202,7 @@ module _ (kinds below : List Kind) (outer : List (List Kind)) (sub : Sublink) (s
         same v =
             let z = cell (row_by spine.items env (u ++ v)) in
             let w = is_true (truth_of (value_of (compare_values c x.0 z))) in
-            let still = good-is (of_spine v) (good-value (test_of spine.test) (parts spine.test with_test).0 (u ++ v) env []) in
+            let still = good-is (of_spine v) (good-value (condition_or_true spine.test) (parts spine.test with_test).0 (u ++ v) env []) in
             ap (λ b. is_met (of_spine v) && b) (sym (holds-boolean w ∙ holds-truth (compare_values c x.0 z)))
             ∙ sym (with-met spine.test other (u ++ v) env (Boolean w) still.0 still.1 (compared-is c tested item.expr (u ++ v) env x.0 z (on_pair v) (made v)))
             ∙ ap (λ e. is_met (value e (u ++ v) env [])) (sym any.test)

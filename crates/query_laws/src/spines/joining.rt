@@ -3,8 +3,9 @@ ghost use Rattle.std.specs.Prelude.{◌≡◌, ◌++◌, [], IfOk, IfSome, IsTru
 ghost use Rattle.bag_algebra.specs.Kinds.{kinds_of, width_of};
 ghost use Rattle.bag_algebra.specs.built.Patterns.{ProjectOf};
 ghost use Rattle.bag_algebra.specs.declared.query.Query.{Query, end_of-Sublink};
+ghost use Rattle.contribution.specs.Conjunctions.{condition_or_true};
 ghost use Rattle.query_laws.specs.spines.Spines.{IsBeside, IsJoined, IsSpine, all_behind, is_behind, items_behind};
-ghost use Rattle.query_laws.specs.spines.Spines.{spine_join, test_of};
+ghost use Rattle.query_laws.specs.spines.Spines.{spine_join};
 
 use crate::spines::spine::{Spine, items_behind, spine_of};
 use bag_algebra::{Expr, Item, JoinKind, Query, exact_width};
@@ -107,7 +108,7 @@ fn own_columns(alloc: Global, left: &Query) -> Result<List<Item>, NoMemory>
 
 /// What the rows are joined on.
 fn test_of(test: Option<Expr>) -> Expr
-    ensures { result ≡ test_of test }
+    ensures { result ≡ condition_or_true test }
 {
     match test {
         Some(test) => test,

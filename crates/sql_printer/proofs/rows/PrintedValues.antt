@@ -5,7 +5,7 @@ use Rattle.std.specs.Int.{is_negative}
 use Rattle.std.specs.List.{range_with_len}
 use Rattle.std.proofs.lemmas.Bool.Decides.{nat_tests}
 use Rattle.null_logic.specs.Arithmetic.{fits_64}
-use Rattle.null_logic.specs.Comparison.{compare_values, in_list, is_null}
+use Rattle.null_logic.specs.Comparison.{compare_values, in_list}
 use Rattle.null_logic.specs.Logic.{truth_of, truth_not, truth_or, value_of}
 use Rattle.null_logic.specs.declared.arith.Arith.TheVariants.{Subtract}
 use Rattle.null_logic.specs.declared.compare.Compare.TheVariants.{Equal}
@@ -14,7 +14,7 @@ use Rattle.null_logic.specs.declared.run_fault.RunFault.TheVariants.{OutOfRange}
 use Rattle.null_logic.specs.declared.operator.Operator.TheVariants as op
 use Rattle.null_logic.specs.declared.truth.Truth.{Truth}
 use Rattle.null_logic.specs.declared.truth.Truth.TheVariants.{True, False, Unknown}
-use Rattle.perm_values.specs.Values.{same_value}
+use Rattle.perm_values.specs.Values.{same_value, is_null}
 use Rattle.perm_values.specs.declared.kind.Kind.{Kind}
 use Rattle.perm_values.specs.declared.kind.Kind.TheVariants as kinds
 use Rattle.perm_values.specs.declared.value.Value.{Value}
