@@ -101,4 +101,3 @@ adds-this {h = h} {old = old} same = record {
 
 pub adds-alike : {h k : Held} {old new : Gathered} → h ≡ k → Adds (k ∷ []) old new → Adds (h ∷ []) old new
 adds-alike {old = old} {new = new} e added = subst (λ (h : Held). Adds (h ∷ []) old new) (sym e) added
-

@@ -21,7 +21,7 @@ use Rattle.name_meaning.specs.Meanings.{Around, Meant, query_means_at}
 use Rattle.name_meaning.specs.Scopes.{ScopeItem, scope_of}
 use Rattle.name_meaning.specs.Trees.{from_item_of, join_of, part_of, query_of, source_of}
 use Rattle.name_meaning.specs.declared.scope.Scope.{Scope}
-use Rattle.name_meaning.proofs.Equations.{token, fromitem-record, fromsource-inner, fromsource-named, joinstep-record-none, joinstep-record-some}
+use Rattle.name_meaning.proofs.Equations.{token, fromitem-record, fromsource-inner, fromsource-named}
 use Rattle.name_meaning.proofs.Lateral.{join-begins, join-items, join-lateral, join-plain, lateral_item, plain_item, plainly}
 use Rattle.name_meaning.proofs.Opened.{join-record}
 use Rattle.name_made_parts.specs.Sources.{IsScope, JoinsMade, MakesBeside, MakesFrom, MakesJoin, MakesOn, MakesSource, SourcesMade, StandsIn, beside_left, text_of, join_on_kept, kept_or_yes}
@@ -237,10 +237,6 @@ sources-made outer (part ∷ parts) scope made count query so_far is whole stand
     is ∙ ap (λ (made : Option Query). option_map_or (λ query. query) made no_from.query) (so_far.makes whole stands)
 
 -- ---- trees
-
-unfolding token
-join-record c word item None = joinstep-record-none c word item
-join-record c word item (Some condition) = joinstep-record-some c word item condition
 
 pub join-fields : (c : Contents) (tree : JoinStep) → join_of c tree ≡ record {
   word = (out-JoinStep tree).word;

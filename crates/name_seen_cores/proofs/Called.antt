@@ -5,27 +5,18 @@ use Rattle.perm_catalog.specs.Contents.{Contents}
 use Rattle.sql_tree.specs.Regular.{BodyLayer}
 use Rattle.sql_tree.specs.declared.expression.AggWord.{AggWord}
 use Rattle.sql_tree.specs.declared.expression.ExprBody.{ExprBody, out-ExprBody, roll-ExprBody}
-use Rattle.sql_tree.specs.declared.expression.ExprBody.TheFolds.{fold-roll-ExprBody}
 use Rattle.sql_tree.specs.declared.expression.ExprBody.TheOpen.{ExprBody-F}
 use Rattle.sql_tree.specs.declared.expression.ExprBody.TheVariants as e
 use Rattle.sql_tree.specs.declared.expression.ExprBody.TheViews.{roll-out-ExprBody}
 use Rattle.sql_tree.specs.declared.expression.ExprTree.{ExprTree}
 use Rattle.sql_tree.specs.declared.name.ColRef.{ColRef}
-use Rattle.name_meaning.specs.Cores.{BodyPart, core_step}
-use Rattle.name_meaning.specs.Expressions.{Body, StepPart, ArmPart, body_step, arm_step, step_step, expr_step}
-use Rattle.name_meaning.specs.Froms.{SourcePart, FromItemPart, FromPart, JoinPart, source_step, from_item_step, from_step, join_step}
-use Rattle.name_meaning.specs.Items.{SelectPart, item_step}
-use Rattle.name_meaning.specs.Meanings.{Part, QueryPart}
-use Rattle.name_meaning.specs.Queries.{SetStepPart, set_step, set_step_step, query_step}
+use Rattle.name_meaning.specs.Expressions.{Body, body_step}
+use Rattle.name_meaning.specs.Meanings.{Part}
 use Rattle.name_meaning.specs.Sublinks.{aggregate_name}
-use Rattle.name_meaning.specs.Trees.{body_of, item_of, set_of_tree, source_of, arm_of, step_of, part_of, core_of, query_of, set_step_of, from_item_of, from_of, join_of}
+use Rattle.name_meaning.specs.Trees.{body_of, part_of}
 use Rattle.name_meaning.proofs.Equations.{token, exprbody-aggregate-none, exprbody-aggregate-some, exprbody-column, exprbody-paren, exprtree-record}
 use Rattle.name_meaning.proofs.Opened.{shown_body, opened_body}
 use Rattle.name_seen_cores.specs.Shown.{called_at, name_or}
-
-unfolding body_of item_of set_of_tree source_of arm_of step_of part_of core_of query_of set_step_of from_item_of from_of join_of
-opened_body c body = ap (body_of c) (sym (roll-out-ExprBody body)) ∙ fold-roll-ExprBody Body SelectPart BodyPart SourcePart ArmPart StepPart Part BodyPart QueryPart SetStepPart FromItemPart FromPart JoinPart
-    body_step item_step set_step source_step arm_step step_step expr_step core_step query_step set_step_step (from_item_step c) from_step join_step (out-ExprBody body)
 
 no-name : (c : Contents) (body : ExprBody) → ((r : ColRef) → body ≡ e.Column r → ⊥) → ((p : ExprTree) → body ≡ e.Paren p → ⊥)
     → ((w : AggWord) (o : Option ExprTree) → body ≡ e.Aggregate w o → ⊥) → (body_of c body).called ≡ None

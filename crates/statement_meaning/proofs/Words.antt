@@ -8,8 +8,7 @@ use Rattle.bag_algebra.specs.declared.query.Query.{Query}
 use Rattle.bag_algebra.specs.declared.query.Query.TheVariants.{Prov}
 use Rattle.perm_catalog.specs.Contents.{Contents}
 use Rattle.perm_catalog.specs.Sound.{IsSound}
-use Rattle.sql_tree.specs.declared.expression.ExprBody.TheFolds.{fold-roll-Core}
-use Rattle.sql_tree.specs.declared.expression.ExprBody.TheViews.{out-roll-Core, roll-out-Core}
+use Rattle.sql_tree.specs.declared.expression.ExprBody.TheViews.{out-roll-Core}
 use Rattle.sql_tree.specs.declared.query.Core.{Core, out-Core, roll-Core}
 use Rattle.sql_tree.specs.declared.query.SetTree.TheVariants as set
 use Rattle.sql_tree.specs.declared.query.QueryTree.{QueryTree}
@@ -20,13 +19,11 @@ use Rattle.sql_tree.specs.declared.statement.StatementBody.TheVariants as st
 use Rattle.name_meaning.proofs.Equations.{token, querytree-record, settree-core, settree-chain}
 use Rattle.name_meaning.proofs.Opened.{CoreLayer, shown_core, opened_core}
 use Rattle.name_meaning.specs.Cores.{BodyPart, core_step}
-use Rattle.name_meaning.specs.Expressions.{Body, StepPart, ArmPart, body_step, arm_step, step_step, expr_step}
-use Rattle.name_meaning.specs.Froms.{SourcePart, FromItemPart, FromPart, JoinPart, source_step, from_item_step, from_step, join_step, names_of, settled_columns}
-use Rattle.name_meaning.specs.Items.{SelectPart, item_step}
-use Rattle.name_meaning.specs.Meanings.{OutColumn, Part, QueryMeant, QueryPart, is_whole, query_means_at}
-use Rattle.name_meaning.specs.Queries.{SetStepPart, keys_breaks, keys_of, limited, plain_query, columns_with_provenance, query_with_provenance, provenance_columns, query_seen, query_step, set_chain, set_step, set_step_step}
+use Rattle.name_meaning.specs.Froms.{names_of, settled_columns}
+use Rattle.name_meaning.specs.Meanings.{OutColumn, QueryMeant, QueryPart, is_whole, query_means_at}
+use Rattle.name_meaning.specs.Queries.{keys_breaks, keys_of, limited, plain_query, columns_with_provenance, query_with_provenance, provenance_columns, query_seen, set_chain}
 use Rattle.name_meaning.specs.Statements.{alone, answer_of, name_breaks, query_meant, resolved_body}
-use Rattle.name_meaning.specs.Trees.{body_of, item_of, set_of_tree, source_of, arm_of, step_of, part_of, core_of, query_of, set_step_of, from_item_of, from_of, join_of}
+use Rattle.name_meaning.specs.Trees.{set_of_tree, core_of, set_step_of}
 use Rattle.name_meaning.specs.declared.answer.Break.{Break}
 use Rattle.name_meaning.proofs.Trees.{set-known}
 use Rattle.statement_meaning.proofs.Ready.{names-whole}
@@ -34,10 +31,6 @@ use Rattle.statement_meaning.proofs.Answered.{same_answer}
 use Rattle.statement_meaning.specs.laws.Asks.{AsksFor, HasWord, IsResolved, WithoutWord, in_core, in_first, plain_core, plain_first, shown_names, with_body}
 
 -- ---- the word, from the tree
-
-unfolding body_of item_of set_of_tree source_of arm_of step_of part_of core_of query_of set_step_of from_item_of from_of join_of
-opened_core c core = ap (core_of c) (sym (roll-out-Core core)) ∙ fold-roll-Core Body SelectPart BodyPart SourcePart ArmPart StepPart Part BodyPart QueryPart SetStepPart FromItemPart FromPart JoinPart
-    body_step item_step set_step source_step arm_step step_step expr_step core_step query_step set_step_step (from_item_step c) from_step join_step (out-Core core)
 
 core-word : (c : Contents) (core : Core) → (core_of c core).word ≡ (out-Core core).provenance
 core-word c core = ap (λ (part : BodyPart). part.word) (opened_core c core)
