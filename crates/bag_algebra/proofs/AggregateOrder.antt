@@ -5,11 +5,10 @@ use Rattle.std.proofs.lemmas.Cmp.{back_total}
 use Rattle.std.specs.Cmp.{IsTotalOrder}
 use Rattle.std.specs.Ordering.{ordering_reverse, flip_args}
 use Rattle.null_logic.specs.Arithmetic.{fits_64}
-use Rattle.null_logic.specs.Comparison.{is_null}
 use Rattle.null_logic.specs.declared.run_fault.RunFault.TheVariants.{OutOfRange}
 use Rattle.perm_values.specs.RowLaws.{value_ties_decided}
 use Rattle.perm_values.specs.ValueLaws.{value_decides, value_cmp_total}
-use Rattle.perm_values.specs.Values.{same_value, value_cmp}
+use Rattle.perm_values.specs.Values.{same_value, value_cmp, is_null}
 use Rattle.perm_values.specs.declared.value.Value.{Value}
 use Rattle.perm_values.specs.declared.value.Value.TheVariants.{Integer}
 use Rattle.bag_algebra.proofs.BagLaws.{Permuted, nothing, onward, turn, joined, permuted-refl, permuted-filter, permuted-length}

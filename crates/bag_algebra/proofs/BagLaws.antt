@@ -1,12 +1,13 @@
 -- Laws of bags: counts, membership, each row once, and bags that are permutations of one another.
-use Rattle.std.proofs.Common.{◌≡◌, ℕ, zero, suc, ◌+◌, ◌<◌, Bool, true, false, cond, not, ◌&&◌, ◌||◌, List, [], ◌∷◌, ◌++◌, map, filter, flat_map, sum_by, Decides, IsPermutation, length, refl, sym, ap, ◌∙◌, subst, arith, true≢false}
+use Rattle.std.proofs.Common.{◌≡◌, ℕ, zero, suc, ◌+◌, ◌<◌, ◌≤◌, Bool, true, false, cond, not, ◌&&◌, ◌||◌, List, [], ◌∷◌, ◌++◌, map, filter, flat_map, sum_by, Decides, IsPermutation, length, refl, sym, ap, ◌∙◌, subst, arith, true≢false}
 use Rattle.std.proofs.lemmas.List.Sums.{sum_by-cons}
 use Rattle.std.proofs.lemmas.List.Sorted.{IsPermutation-refl, IsPermutation-cons, IsPermutation-trans, IsPermutation-swap, sum_by-IsPermutation}
 use Rattle.std.specs.Cmp.{decided}
 use Rattle.std.specs.List.{list_any}
-use Rattle.perm_values.specs.Rows.{same_row}
+use Rattle.perm_values.specs.Rows.{same_row, picked}
 use Rattle.perm_values.specs.ValueLaws.{row_decides}
 use Rattle.bag_algebra.specs.Bags.{Row, Bag, count, member, SameBag, others, once, without_first}
+use Rattle.bag_algebra.specs.Means.{class_keys}
 use Rattle.bag_algebra.proofs.Truths.{or_associates}
 
 pub same_row-refl : (t : Row) → same_row t t ≡ true
@@ -117,7 +118,7 @@ and_true : (b : Bool) → b ≡ (b && true)
 and_true true = refl
 and_true false = refl
 
-and_false : (b : Bool) → false ≡ (b && false)
+pub and_false : (b : Bool) → false ≡ (b && false)
 and_false true = refl
 and_false false = refl
 
@@ -148,6 +149,10 @@ step_once : (b m : Bool) (n k : ℕ) → n ≡ cond b 0 k → k ≡ cond m 1 0 �
 step_once true m n k e f = ap suc e
 step_once false m n k e f = e ∙ f
 
+pub at_most_one : (b : Bool) → cond b 1 0 ≤ 1
+at_most_one true = omega arith
+at_most_one false = omega arith
+
 pub count-once : (t : Row) (us : Bag) → count t (once us) ≡ cond (member t us) 1 0
 count-once t [] = refl
 count-once t (u ∷ us) = step_once (same_row u t) (member t us) _ _ (count-others t u (once us)) (count-once t us)
@@ -161,6 +166,12 @@ once-same_bag us vs s = once-same_members us vs (λ t. member-same_bag t us vs s
 once_member : (b : Bool) (n : ℕ) → n ≡ cond b 1 0 → Decides b (0 < n)
 once_member true n e = (λ _. omega arith, λ h. refl)
 once_member false n e = (λ f. absurd (true≢false (sym f)), λ h. absurd (omega arith))
+
+pub keys-once : (groups : List ℕ) (us : Bag) (key : Row) → count key (class_keys groups us) ≤ 1
+keys-once [] us key = at_most_one (same_row [] key)
+keys-once (group ∷ groups) us key =
+    let keys = map (picked (group ∷ groups)) us in
+    subst (λ n. n ≤ 1) (sym (count-once key keys)) (at_most_one (member key keys))
 
 pub member-once : (t : Row) (us : Bag) → member t (once us) ≡ member t us
 member-once t us =

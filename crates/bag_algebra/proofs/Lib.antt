@@ -17,5 +17,6 @@ pub mod Smaller
 pub mod SortedBags
 pub mod Subs
 pub mod TablesRead
+pub mod TruthValues
 pub mod Truths
 pub mod Widths

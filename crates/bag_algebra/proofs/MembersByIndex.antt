@@ -1,5 +1,5 @@
 -- What is in a list stands at an index of it.
-use Rattle.std.proofs.Common.{◌≡◌, ℕ, zero, suc, ◌<◌, inl, inr, List, [], ◌∷◌, length, slice_index_or, All, Contains, refl, arith}
+use Rattle.std.proofs.Common.{◌≡◌, ℕ, zero, suc, ◌<◌, inl, inr, List, [], ◌∷◌, length, slice_index_or, All, Contains, refl, subst, arith}
 use Rattle.bag_algebra.proofs.Members.{IsIn}
 
 pub in-from_contains : {X : Type 0} (x : X) (xs : List X) → Contains xs x → IsIn x xs
@@ -21,3 +21,7 @@ in-at (x ∷ xs) (suc k) d h = inr (in-at xs k d (omega arith))
 
 pub all-from_in : {X : Type 0} (P : X → Type 0) (xs : List X) → ((x : X) → IsIn x xs → P x) → All P xs
 all-from_in P xs f k d h = f (slice_index_or xs k d) (in-at xs k d h)
+
+-- what holds of each by index holds of each member
+pub all-at : {X : Type 0} (P : X → Type 0) (xs : List X) (x : X) → All P xs → IsIn x xs → P x
+all-at P xs x all h = let found = contains-from_in x xs h in subst P found.2 (all found.0 x found.1)

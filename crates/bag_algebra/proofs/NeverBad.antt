@@ -4,12 +4,14 @@ use Rattle.null_logic.specs.declared.operator.Operator.{Operator}
 use Rattle.null_logic.specs.declared.operator.Operator.TheVariants as op
 use Rattle.perm_values.specs.declared.value.Value.{Value}
 use Rattle.bag_algebra.specs.Bags.{Row, Bag}
+use Rattle.bag_algebra.specs.Children.{subs_denote}
 use Rattle.bag_algebra.specs.Expressions.{value, values, arm_value, operate, with_one, with_two, with_three}
 use Rattle.bag_algebra.specs.FaultFree.{may_fault, faultless, parts_faultless, arms_faultless, option_faultless, items_faultless, is_sum, aggregates_faultless, is_scalar, fault_free, subs_fault_free}
-use Rattle.bag_algebra.specs.Meaning.{Database, denote, sub_denote, optional_value, condition_on, items_on, arguments_on}
+use Rattle.bag_algebra.specs.Meaning.{Database, denote, meaning, sub_denote, optional_value, condition_on, items_on, arguments_on}
 use Rattle.bag_algebra.specs.Kinds.{width_of}
 use Rattle.bag_algebra.specs.Means.{Witness, with_lists, kept, met_pairs, joined_rows, under, aggregated, aggregates_of, sub_value}
 use Rattle.bag_algebra.specs.Outcome.{Outcome, Good, Bad, is_good, and_then, mapped, both, both_then, gather, each}
+use Rattle.bag_algebra.specs.built.FaultFree.{all_fault_free}
 use Rattle.bag_algebra.specs.built.Patterns.{OpOf, ChainOf, CaseOf, IsNullOf, IsTruthOf, SameOf, BaseOf, FilterOf, ProjectOf, JoinOf, ApplyOf, UnionOf, IntersectOf, ExceptOf, DistinctOf, AggregateOf, LimitOf, ProvOf}
 use Rattle.bag_algebra.specs.declared.expr.Expr.{Expr, Row_of-Expr, Row_of-Arm, more_of-Expr, end_of-Expr, more_of-Arm, end_of-Arm}
 use Rattle.bag_algebra.specs.declared.expr.Expr.TheVariants.{Col, Lit, Sub}
@@ -22,25 +24,26 @@ use Rattle.bag_algebra.specs.declared.query.Query.{Query, Row_of-Sublink, more_o
 use Rattle.bag_algebra.specs.declared.query.Query.TheVariants.{Table, Single}
 use Rattle.bag_algebra.specs.declared.query.SubKind.{SubKind}
 use Rattle.bag_algebra.specs.declared.query.SubKind.TheVariants as sub
+use Rattle.bag_algebra.specs.declared.query.Sublink.{Sublink}
 use Rattle.bag_algebra.proofs.Truths.{left-true, right-true}
 
 -- ---- outcomes
 
-good-and_then : {X Y : Type 0} (a : Outcome X) (next : X → Outcome Y) → is_good a ≡ true → ((x : X) → is_good (next x) ≡ true) → is_good (and_then a next) ≡ true
+pub good-and_then : {X Y : Type 0} (a : Outcome X) (next : X → Outcome Y) → is_good a ≡ true → ((x : X) → is_good (next x) ≡ true) → is_good (and_then a next) ≡ true
 good-and_then (Good x) next h more = more x
 good-and_then (Bad f) next h more = h
 
-good-mapped : {X Y : Type 0} (f : X → Y) (a : Outcome X) → is_good a ≡ true → is_good (mapped f a) ≡ true
+pub good-mapped : {X Y : Type 0} (f : X → Y) (a : Outcome X) → is_good a ≡ true → is_good (mapped f a) ≡ true
 good-mapped f (Good x) h = refl
 good-mapped f (Bad g) h = h
 
-good-both : {X Y Z : Type 0} (f : X → Y → Z) (a : Outcome X) (b : Outcome Y) → is_good a ≡ true → is_good b ≡ true → is_good (both f a b) ≡ true
+pub good-both : {X Y Z : Type 0} (f : X → Y → Z) (a : Outcome X) (b : Outcome Y) → is_good a ≡ true → is_good b ≡ true → is_good (both f a b) ≡ true
 good-both f (Good x) (Good y) h k = refl
 good-both f (Good x) (Bad g) h k = k
 good-both f (Bad g) (Good y) h k = h
 good-both f (Bad g) (Bad g') h k = h
 
-good-both_then : {X Y Z : Type 0} (a : Outcome X) (b : Outcome Y) (next : X → Y → Outcome Z) → is_good a ≡ true → is_good b ≡ true →
+pub good-both_then : {X Y Z : Type 0} (a : Outcome X) (b : Outcome Y) (next : X → Y → Outcome Z) → is_good a ≡ true → is_good b ≡ true →
     ((x : X) (y : Y) → is_good (next x y) ≡ true) → is_good (both_then a b next) ≡ true
 good-both_then (Good x) (Good y) next h k more = more x y
 good-both_then (Good x) (Bad g) next h k more = k
@@ -129,7 +132,7 @@ mutual
       (λ c. good-cond _ (value arm u env subs) (arm_value arms u env subs otherwise) (good-value arm (right-true (faultless condition) _ own) u env subs)
       (good-arms arms (right-true (faultless condition && faultless arm) _ w) u env subs otherwise h))
 
-good-option : (part : Option Expr) → option_faultless part ≡ true → (env : List Row) (u : Row) → is_good (optional_value part env u) ≡ true
+pub good-option : (part : Option Expr) → option_faultless part ≡ true → (env : List Row) (u : Row) → is_good (optional_value part env u) ≡ true
 good-option None w env u = refl
 good-option (Some part) w env u = good-value part w u env []
 
@@ -174,7 +177,7 @@ good-joined kind condition all left_width right_width us vs =
     good-mapped _ (met_pairs condition us vs)
     (good-gather _ (λ u. good-gather (λ v. kept condition (u ++ v)) (λ v. good-mapped _ (condition (u ++ v)) (all (u ++ v))) vs) us)
 
-good-sub : (kind : SubKind) (x : Value) (bag : Bag) → not (is_scalar kind) ≡ true → is_good (sub_value kind x bag) ≡ true
+pub good-sub : (kind : SubKind) (x : Value) (bag : Bag) → not (is_scalar kind) ≡ true → is_good (sub_value kind x bag) ≡ true
 good-sub sub.Exists x bag w = refl
 good-sub (sub.Any c) x bag w = refl
 good-sub (sub.All c) x bag w = refl
@@ -246,3 +249,18 @@ mutual
       (good-query query (right-true (not (is_scalar kind) && option_faultless tested) _ own) db (u ∷ env))
       (λ x bag. good-sub kind x bag (left-true _ _ before)))
       (good-subs subs (right-true ((not (is_scalar kind) && option_faultless tested) && fault_free query) _ w) db env u)
+
+-- ---- sublinks as a list
+
+pub good-answers : (subs : List Sublink) → all_fault_free subs ≡ true → (db : Database) (env : List Row) (u : Row) →
+    is_good ((subs_denote subs db env).answers u) ≡ true
+good-answers [] w db env u = refl
+good-answers (s ∷ subs) w db env u =
+    let own = left-true ((not (is_scalar s.kind) && option_faultless s.tested) && fault_free s.query) (all_fault_free subs) w in
+    let form = left-true (not (is_scalar s.kind) && option_faultless s.tested) (fault_free s.query) own in
+    good-both (λ v vs. v ∷ vs) (both_then (optional_value s.tested env u) (meaning s.query db (u ∷ env)) (sub_value s.kind)) ((subs_denote subs db env).answers u)
+    (good-both_then (optional_value s.tested env u) (meaning s.query db (u ∷ env)) (sub_value s.kind)
+    (good-option s.tested (right-true (not (is_scalar s.kind)) (option_faultless s.tested) form) env u)
+    (good-query s.query (right-true (not (is_scalar s.kind) && option_faultless s.tested) (fault_free s.query) own) db (u ∷ env))
+    (λ x bag. good-sub s.kind x bag (left-true (not (is_scalar s.kind)) (option_faultless s.tested) form)))
+    (good-answers subs (right-true ((not (is_scalar s.kind) && option_faultless s.tested) && fault_free s.query) (all_fault_free subs) w) db env u)

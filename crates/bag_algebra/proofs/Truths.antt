@@ -12,6 +12,14 @@ pub right-true : (a b : Bool) → (a && b) ≡ true → b ≡ true
 right-true true b h = h
 right-true false b h = absurd (true≢false (sym h))
 
+pub left-false : (a b : Bool) → (a || b) ≡ false → a ≡ false
+left-false true b h = absurd (true≢false h)
+left-false false b h = refl
+
+pub right-false : (a b : Bool) → (a || b) ≡ false → b ≡ false
+right-false true b h = absurd (true≢false h)
+right-false false b h = h
+
 pub and_true : (b : Bool) → (b && true) ≡ b
 and_true true = refl
 and_true false = refl
@@ -35,6 +43,11 @@ or_true false = refl
 pub not_not : (b : Bool) → not (not b) ≡ b
 not_not true = refl
 not_not false = refl
+
+pub and_turn : (a b c : Bool) → (a && (b && c)) ≡ (b && (a && c))
+and_turn true b c = refl
+and_turn false true c = refl
+and_turn false false c = refl
 
 pub or_turn : (a b c : Bool) → (a || (b || c)) ≡ (b || (a || c))
 or_turn true true c = refl

@@ -3,7 +3,7 @@
 use Rattle.std.specs.Prelude.{ℕ, Bool, cond, List, [], ◌∷◌, slice_index_or}
 use Rattle.std.specs.Str.{chars}
 use Rattle.null_logic.specs.Arithmetic.{calculate, negate}
-use Rattle.null_logic.specs.Comparison.{compare_values, between, in_list, is_null}
+use Rattle.null_logic.specs.Comparison.{compare_values, between, in_list}
 use Rattle.null_logic.specs.Like.{like}
 use Rattle.null_logic.specs.Logic.{truth_and, truth_or, truth_not, truth_of, value_of, is_true}
 use Rattle.null_logic.specs.declared.arith.Arith.{Arith}
@@ -13,7 +13,7 @@ use Rattle.null_logic.specs.declared.operator.Operator.TheVariants as op
 use Rattle.null_logic.specs.declared.truth.Truth.{Truth}
 use Rattle.null_logic.specs.declared.truth.Truth.TheVariants.{True, False, Unknown}
 use Rattle.perm_values.specs.Rows.{value_at}
-use Rattle.perm_values.specs.Values.{same_value}
+use Rattle.perm_values.specs.Values.{same_value, is_null}
 use Rattle.perm_values.specs.declared.value.Value.{Value}
 use Rattle.perm_values.specs.declared.value.Value.TheVariants.{Null, Integer, Text, Boolean}
 use Rattle.bag_algebra.specs.Bags.{Row}

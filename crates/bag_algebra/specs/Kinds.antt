@@ -15,6 +15,12 @@ kind_in kinds place = slice_index_or kinds place Text
 abbrev pub kinds_in : List Kind → List ℕ → List Kind
 kinds_in kinds places = map (kind_in kinds) places
 
+abbrev pub item_kinds : List Item → List Kind
+item_kinds items = map (λ (item : Item). item.kind) items
+
+abbrev pub aggregate_kinds : List Aggr → List Kind
+aggregate_kinds aggregates = map (λ (aggregate : Aggr). aggregate.kind) aggregates
+
 -- the columns of all places, one place after another
 abbrev pub place_kinds : List Place → List Kind
 place_kinds [] = []
@@ -27,14 +33,14 @@ abbrev mutual
   kinds_of Single = []
   kinds_of (BaseOf input places label) = kinds_of input
   kinds_of (FilterOf input condition _ subs) = kinds_of input
-  kinds_of (ProjectOf input items _ subs) = map (λ (item : Item). item.kind) items
+  kinds_of (ProjectOf input items _ subs) = item_kinds items
   kinds_of (JoinOf kind left right condition _ subs) = kinds_of left ++ kinds_of right
   kinds_of (ApplyOf kind left right) = kinds_of left ++ kinds_of right
   kinds_of (UnionOf all left right) = kinds_of left
   kinds_of (IntersectOf all left right) = kinds_of left
   kinds_of (ExceptOf all left right) = kinds_of left
   kinds_of (DistinctOf input) = kinds_of input
-  kinds_of (AggregateOf input groups aggregates) = kinds_in (kinds_of input) groups ++ map (λ (aggregate : Aggr). aggregate.kind) aggregates
+  kinds_of (AggregateOf input groups aggregates) = kinds_in (kinds_of input) groups ++ aggregate_kinds aggregates
   kinds_of (LimitOf input keys count) = kinds_of input
   kinds_of (ProvOf input) = kinds_of input ++ place_kinds (shape input)
 

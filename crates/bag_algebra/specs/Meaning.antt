@@ -11,6 +11,7 @@ use Rattle.bag_algebra.specs.Outcome.{Outcome, Good, and_then, each}
 use Rattle.bag_algebra.specs.built.Patterns.{BaseOf, FilterOf, ProjectOf, JoinOf, ApplyOf, UnionOf, IntersectOf, ExceptOf, DistinctOf, AggregateOf, LimitOf, ProvOf}
 use Rattle.bag_algebra.specs.declared.expr.Expr.{Expr}
 use Rattle.bag_algebra.specs.declared.expr.Item.{Item}
+use Rattle.bag_algebra.specs.declared.query.AggFn.{AggFn}
 use Rattle.bag_algebra.specs.declared.query.Aggr.{Aggr}
 use Rattle.bag_algebra.specs.declared.query.Query.{Query, Row_of-Sublink, more_of-Sublink, end_of-Sublink}
 use Rattle.bag_algebra.specs.declared.query.Query.TheVariants.{Table, Single}
@@ -31,6 +32,9 @@ items_on items env subs u = and_then (subs.answers u) (λ answers. each (λ (ite
 abbrev pub optional_value : Option Expr → List Row → Row → Outcome Value
 optional_value None env u = Good Null
 optional_value (Some part) env u = value part u env []
+
+abbrev pub functions_of : List Aggr → List AggFn
+functions_of aggregates = map (λ (aggregate : Aggr). aggregate.function) aggregates
 
 -- the arguments of the aggregates on a row
 abbrev pub arguments_on : List Aggr → List Row → Row → Outcome Row
@@ -61,7 +65,7 @@ abbrev mutual
       except_means all (all_empty (shape right)) (denote left db env) (denote right db env)
   denote (DistinctOf input) db env = distinct_means (denote input db env)
   denote (AggregateOf input groups aggregates) db env =
-      aggregate_means groups (map (λ (aggregate : Aggr). aggregate.function) aggregates) (arguments_on aggregates env)
+      aggregate_means groups (functions_of aggregates) (arguments_on aggregates env)
       (all_empty (shape input)) (denote input db env)
   denote (LimitOf input keys count) db env = limit_means keys count (denote input db env)
   denote (ProvOf input) db env = provenance_means (denote input db env)

@@ -5,14 +5,14 @@ use Rattle.std.specs.Prelude.{ℕ, suc, ℤ, pos, ◌+ℤ◌, Bool, true, false,
 use Rattle.std.specs.List.{list_any, flat_map}
 use Rattle.std.specs.Ordering.{ordering_reverse}
 use Rattle.null_logic.specs.Arithmetic.{fits_64}
-use Rattle.null_logic.specs.Comparison.{compare_values, is_null}
+use Rattle.null_logic.specs.Comparison.{compare_values}
 use Rattle.null_logic.specs.Logic.{is_true, truth_of, truth_not, value_of}
 use Rattle.null_logic.specs.declared.compare.Compare.{Compare}
 use Rattle.null_logic.specs.declared.run_fault.RunFault.TheVariants.{OutOfRange, SeveralRows}
 use Rattle.null_logic.specs.declared.truth.Truth.{Truth}
 use Rattle.null_logic.specs.declared.truth.Truth.TheVariants.{True, False, Unknown}
 use Rattle.perm_values.specs.Rows.{same_row, value_at, picked, printed_cmp}
-use Rattle.perm_values.specs.Values.{same_value, value_cmp}
+use Rattle.perm_values.specs.Values.{same_value, value_cmp, is_null}
 use Rattle.perm_values.specs.declared.key.Key.{Key}
 use Rattle.perm_values.specs.declared.value.Value.{Value}
 use Rattle.perm_values.specs.declared.value.Value.TheVariants.{Null, Integer, Text, Boolean}

@@ -8,8 +8,8 @@ use Rattle.null_logic.specs.declared.arith.Arith.{Arith}
 use Rattle.null_logic.specs.declared.arith.Arith.TheVariants.{Add, Subtract, Multiply, Divide, Remainder}
 use Rattle.null_logic.specs.declared.operator.Operator.{Operator}
 use Rattle.null_logic.specs.declared.operator.Operator.TheVariants as op
+use Rattle.perm_values.specs.Rows.{KeysWithin, PlacesWithin}
 use Rattle.perm_values.specs.Values.{fits}
-use Rattle.perm_values.specs.declared.key.Key.{Key}
 use Rattle.perm_values.specs.declared.kind.Kind.{Kind}
 use Rattle.perm_values.specs.declared.kind.Kind.TheVariants.{Integer, Text, Boolean}
 use Rattle.perm_values.specs.declared.value.Value.{Value}
@@ -158,12 +158,6 @@ abbrev mutual
 abbrev pub ItemsForm : List (List Kind) → List Kind → List Item → Type 0
 ItemsForm scopes subs items = All (λ (item : Item). HasKind scopes subs item.expr item.kind) items
 
-abbrev pub PlacesIn : ℕ → List ℕ → Type 0
-PlacesIn width places = All (λ (place : ℕ). place < width) places
-
-abbrev pub KeysIn : ℕ → List Key → Type 0
-KeysIn width keys = All (λ (key : Key). key.place < width) keys
-
 abbrev pub label_width : Label → ℕ
 label_width (Relation name columns) = length columns
 label_width (External columns) = length columns
@@ -284,7 +278,7 @@ abbrev mutual
   pub WellFormed : List (List Kind) → Query → Type 0
   WellFormed outer (Table id kinds) = ⊤
   WellFormed outer Single = ⊤
-  WellFormed outer (BaseOf input places label) = BaseForm (WellFormed outer input) (PlacesIn (width_of input) places) places label
+  WellFormed outer (BaseOf input places label) = BaseForm (WellFormed outer input) (PlacesWithin (width_of input) places) places label
   WellFormed outer (FilterOf input condition _ subs) =
       FilterForm (WellFormed outer input) (SubsForm (kinds_of input ∷ outer) subs)
       (HasKind (kinds_of input ∷ outer) (sub_kinds subs) condition Boolean)
@@ -300,8 +294,8 @@ abbrev mutual
   WellFormed outer (ExceptOf all left right) = SetForm (WellFormed outer left) (WellFormed outer right) (kinds_of left) (kinds_of right)
   WellFormed outer (DistinctOf input) = WellFormed outer input
   WellFormed outer (AggregateOf input groups aggregates) =
-      AggregateForm (WellFormed outer input) (PlacesIn (width_of input) groups) (AggregatesForm (kinds_of input ∷ outer) aggregates)
-  WellFormed outer (LimitOf input keys count) = LimitForm (WellFormed outer input) (KeysIn (width_of input) keys) count
+      AggregateForm (WellFormed outer input) (PlacesWithin (width_of input) groups) (AggregatesForm (kinds_of input ∷ outer) aggregates)
+  WellFormed outer (LimitOf input keys count) = LimitForm (WellFormed outer input) (KeysWithin (width_of input) keys) count
   WellFormed outer (ProvOf input) = WellFormed outer input
 
   -- the sublinks of a node in these scopes; their queries see the node's row as the nearest outer row

@@ -17,10 +17,10 @@ pub use env::Env;
 pub use expr::{Arm, ChainStep, Expr, Item};
 pub use laws::what_fits_a_query_fits_what_reads_its_tables;
 pub use measures::{
-    expressions_have_one_kind, fault_free, fault_free_queries_meet_no_fault, faultless,
-    faultless_expressions_meet_no_fault, height, is_plain, is_scoped, is_table,
-    more_sublinks_change_nothing, over_tables, size, traceable,
-    well_formed_queries_read_their_outer_rows_alone, width,
+    all_fault_free, exact_width, expressions_have_one_kind, fault_free,
+    fault_free_queries_meet_no_fault, faultless, faultless_expressions_meet_no_fault, height,
+    is_plain, is_scoped, is_table, items_faultless, more_sublinks_change_nothing, over_tables,
+    size, traceable, well_formed_queries_read_their_outer_rows_alone, width,
 };
 pub use place::Place;
 pub use query::{AggFn, Aggr, Answer, JoinKind, Label, Query, SubKind, Sublink};

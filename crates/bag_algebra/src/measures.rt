@@ -6,8 +6,8 @@ mod laws;
 mod scopes;
 mod sizes;
 
-pub use faults::{fault_free, faultless};
-pub use kinds::width;
+pub use faults::{all_fault_free, fault_free, faultless, items_faultless};
+pub use kinds::{exact_width, width};
 pub use laws::{
     expressions_have_one_kind, fault_free_queries_meet_no_fault,
     faultless_expressions_meet_no_fault, more_sublinks_change_nothing,

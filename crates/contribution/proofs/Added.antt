@@ -1,7 +1,7 @@
 -- What calls add at the end of a list, one after another.
 use Rattle.std.proofs.Common.{◌≡◌, ℕ, ◌+◌, ◌<◌, List, [], ◌∷◌, ◌++◌, Result, OnOk, length, get_or, take, refl, sym, ap, ◌∙◌, subst, append_assoc, append-nil}
-use Rattle.std.proofs.lemmas.List.{take_more}
 use Rattle.perm_values.specs.declared.no_memory.NoMemory.{NoMemory}
+use Rattle.perm_values.proofs.Lists.{taken}
 use Rattle.bag_algebra.specs.Children.{subs_shape}
 use Rattle.bag_algebra.specs.Kinds.{shape, place_kinds}
 use Rattle.bag_algebra.specs.declared.place.Place.{Place}
@@ -26,12 +26,9 @@ added-joined middle before last xs ys e f = f ∙ ap (λ zs. zs ++ ys) e ∙ app
 
 -- ---- a loop: what a word says of the items so far and one more
 
-pub one_more : {X : Type 0} (xs : List X) (i : ℕ) (x : X) → i < length xs → x ≡ get_or xs i x → take (i + 1) xs ≡ take i xs ++ x ∷ []
-one_more xs i x within e = take_more xs i x within ∙ ap (λ y. take i xs ++ y ∷ []) (sym e)
-
 pub place_kinds-more : (ps : List Place) (i : ℕ) (p : Place) → i < length ps → p ≡ get_or ps i p → place_kinds (take i ps) ++ p.kinds ≡ place_kinds (take (i + 1) ps)
 place_kinds-more ps i p within e =
-    sym (ap place_kinds (one_more ps i p within e) ∙ place_kinds-append (take i ps) (p ∷ []) ∙ ap (λ kinds. place_kinds (take i ps) ++ kinds) (append-nil p.kinds))
+    sym (ap place_kinds (taken ps i p within e) ∙ place_kinds-append (take i ps) (p ∷ []) ∙ ap (λ kinds. place_kinds (take i ps) ++ kinds) (append-nil p.kinds))
 
 subs_shape-append : (ss rs : List Sublink) → subs_shape (ss ++ rs) ≡ subs_shape ss ++ subs_shape rs
 subs_shape-append [] rs = refl
@@ -39,4 +36,4 @@ subs_shape-append (s ∷ ss) rs = ap (λ places. shape s.query ++ places) (subs_
 
 pub subs_shape-more : (ss : List Sublink) (i : ℕ) (s : Sublink) → i < length ss → s ≡ get_or ss i s → subs_shape (take i ss) ++ shape s.query ≡ subs_shape (take (i + 1) ss)
 subs_shape-more ss i s within e =
-    sym (ap subs_shape (one_more ss i s within e) ∙ subs_shape-append (take i ss) (s ∷ []) ∙ ap (λ places. subs_shape (take i ss) ++ places) (append-nil (shape s.query)))
+    sym (ap subs_shape (taken ss i s within e) ∙ subs_shape-append (take i ss) (s ∷ []) ∙ ap (λ places. subs_shape (take i ss) ++ places) (append-nil (shape s.query)))

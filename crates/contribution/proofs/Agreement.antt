@@ -1,5 +1,6 @@
 -- Outcomes with one set of faults, or with lists that are permutations of one another; and what keeps them so.
-use Rattle.std.proofs.Common.{◌≡◌, Bool, true, false, ◌||◌, List, [], ◌∷◌, ◌++◌, refl, ap, ◌∙◌, subst}
+use Rattle.std.proofs.Common.{◌≡◌, List, [], ◌∷◌, ◌++◌, refl, ap, ◌∙◌, subst}
+use Rattle.std.proofs.Math.Bool.{or_comm}
 use Rattle.bag_algebra.proofs.BagLaws.{Permuted, nothing, onward, turn, joined, permuted-refl, permuted-append_left, permuted-append_right}
 use Rattle.bag_algebra.specs.Outcome.{Faults, union, Outcome, Good, Bad, and_then, mapped, both, both_then, gather, each}
 use Rattle.bag_algebra.proofs.Truths.{or_turn}
@@ -43,12 +44,6 @@ permuted-turn (u ∷ us) vs ws = joined (onward u (permuted-turn us vs ws)) (pas
   past : {X : Type 0} (u : X) (vs ws : List X) → Permuted (u ∷ vs ++ ws) (vs ++ (u ∷ ws))
   past u [] ws = permuted-refl (u ∷ ws)
   past u (v ∷ vs) ws = joined (turn u v (vs ++ ws)) (onward v (past u vs ws))
-
-or_comm : (a b : Bool) → (a || b) ≡ (b || a)
-or_comm true true = refl
-or_comm true false = refl
-or_comm false true = refl
-or_comm false false = refl
 
 pub union-turn : (f g h : Faults) → union f (union g h) ≡ union g (union f h)
 union-turn f g h = λ i. record {

@@ -1,6 +1,7 @@
 -- The sources over tables of what the constructors of code make.
 use Rattle.std.proofs.Common.{◌≡◌, ℕ, ◌+◌, ◌<◌, Bool, List, [], ◌∷◌, ◌++◌, length, get_or, take, refl, sym, ap, ◌∙◌, append_assoc, append-nil}
 use Rattle.perm_values.specs.declared.key.Key.{Key}
+use Rattle.perm_values.proofs.Lists.{taken}
 use Rattle.bag_algebra.specs.built.Openings.{row_of_subs, Base-is, Filter-is, Project_with-is, Join-is, Apply-is, Union-is, Intersect-is, Except-is, Distinct-is, Aggregate-is, Limit-is, Prov-is}
 use Rattle.bag_algebra.specs.declared.expr.Expr.{Expr}
 use Rattle.bag_algebra.specs.declared.expr.Item.{Item}
@@ -13,7 +14,6 @@ use Rattle.bag_algebra.specs.declared.query.Query.TheBlock.{shape-the_row-Sublin
 use Rattle.bag_algebra.specs.declared.query.Query.TheVariants.{Base, Filter, Project, Join, Apply, Union, Intersect, Except, Distinct, Aggregate, Limit, Prov}
 use Rattle.bag_algebra.specs.declared.query.Sublink.{Sublink}
 use Rattle.bag_algebra.specs.built.Patterns.{JoinOf}
-use Rattle.contribution.proofs.Added.{one_more}
 use Rattle.contribution.specs.CrossBase.{base_source, table_sources, sub_table_sources, subs_table_sources, source_query, crossed}
 use Rattle.contribution.specs.Conjunctions.{always}
 use Rattle.contribution.specs.declared.cross.TableSource.{TableSource}
@@ -78,7 +78,7 @@ subs_table_sources-append (s ∷ ss) rs =
 pub subs_table_sources-more : (ss : List Sublink) (i : ℕ) (s : Sublink) → i < length ss → s ≡ get_or ss i s →
     subs_table_sources (take i ss) ++ table_sources s.query ≡ subs_table_sources (take (i + 1) ss)
 subs_table_sources-more ss i s within e =
-    sym (ap subs_table_sources (one_more ss i s within e) ∙ subs_table_sources-append (take i ss) (s ∷ [])
+    sym (ap subs_table_sources (taken ss i s within e) ∙ subs_table_sources-append (take i ss) (s ∷ [])
     ∙ ap (λ sources. subs_table_sources (take i ss) ++ sources) (append-nil (table_sources s.query)))
 
 -- sources from the last one on, each in front of those behind it
@@ -90,4 +90,4 @@ crossed-last (first ∷ sources) source rest =
 
 pub crossed-before : (sources : List TableSource) (i : ℕ) (source : TableSource) (rest : Query) → i < length sources → source ≡ get_or sources i source →
     crossed (take (i + 1) sources) rest ≡ crossed (take i sources) (JoinOf Inner (source_query source) rest always [] end_of-Sublink)
-crossed-before sources i source rest within e = ap (λ ss. crossed ss rest) (one_more sources i source within e) ∙ crossed-last (take i sources) source rest
+crossed-before sources i source rest within e = ap (λ ss. crossed ss rest) (taken sources i source within e) ∙ crossed-last (take i sources) source rest

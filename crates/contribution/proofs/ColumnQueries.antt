@@ -1,20 +1,19 @@
 -- Columns as items, and the columns of a query in another order.
 use Rattle.std.proofs.Common.{◌≡◌, ℕ, zero, suc, ◌<◌, List, [], ◌∷◌, map, length, Some, All, refl, ap, ◌∙◌, arith}
 use Rattle.std.specs.Prelude.{slice_get}
-use Rattle.perm_values.specs.Rows.{picked}
+use Rattle.perm_values.specs.Rows.{picked, PlacesWithin}
 use Rattle.perm_values.specs.declared.kind.Kind.{Kind}
 use Rattle.bag_algebra.proofs.Columns.{column_items-give, each-good}
 use Rattle.bag_algebra.specs.Bags.{Row, Bag}
 use Rattle.bag_algebra.specs.ColumnItems.{column_item, column_items}
-use Rattle.bag_algebra.specs.Kinds.{kinds_of, kinds_in, kind_in, width_of}
+use Rattle.bag_algebra.specs.Kinds.{kinds_of, kinds_in, kind_in, width_of, item_kinds}
 use Rattle.bag_algebra.specs.Meaning.{Database, meaning, items_on}
 use Rattle.bag_algebra.specs.Means.{no_subs}
 use Rattle.bag_algebra.specs.Outcome.{Outcome, Good, Bad, and_then, mapped, each}
 use Rattle.bag_algebra.specs.built.Patterns.{ProjectOf}
-use Rattle.bag_algebra.specs.WellFormed.{WellFormed, PlacesIn, ItemsForm, HasKind}
+use Rattle.bag_algebra.specs.WellFormed.{WellFormed, ItemsForm, HasKind}
 use Rattle.bag_algebra.specs.declared.expr.Item.{Item}
 use Rattle.bag_algebra.specs.declared.query.Query.{Query, end_of-Sublink}
-use Rattle.contribution.specs.ItemKinds.{item_kinds}
 use Rattle.bag_algebra.specs.built.Openings.{rows-with_lists}
 
 pub all-nothing : {X : Type 0} (P : X → Type 0) → All P []
@@ -36,7 +35,7 @@ kind_there [] place within = absurd (omega arith)
 kind_there (kind ∷ kinds) zero within = refl
 kind_there (kind ∷ kinds) (suc place) within = kind_there kinds place (omega arith)
 
-pub column_items-formed : (kinds : List Kind) (outer : List (List Kind)) (places : List ℕ) → PlacesIn (length kinds) places → ItemsForm (kinds ∷ outer) [] (column_items kinds places)
+pub column_items-formed : (kinds : List Kind) (outer : List (List Kind)) (places : List ℕ) → PlacesWithin (length kinds) places → ItemsForm (kinds ∷ outer) [] (column_items kinds places)
 column_items-formed kinds outer [] within = all-nothing _
 column_items-formed kinds outer (place ∷ places) within =
     all-first (λ (item : Item). HasKind (kinds ∷ outer) [] item.expr item.kind) (column_item kinds place) (column_items kinds places)
@@ -56,6 +55,6 @@ module _ (q : Query) (order : List ℕ) where
     by_input (Good bag) = each-good (picked order) (items_on (column_items (kinds_of q) order) env no_subs) (column_items-give (kinds_of q) order env) bag
     by_input (Bad faults) = refl
 
-pub formed-columns : (q : Query) (order : List ℕ) → PlacesIn (width_of q) order → (outer : List (List Kind)) → WellFormed outer q →
+pub formed-columns : (q : Query) (order : List ℕ) → PlacesWithin (width_of q) order → (outer : List (List Kind)) → WellFormed outer q →
     WellFormed outer (ProjectOf q (column_items (kinds_of q) order) [] end_of-Sublink)
 formed-columns q order within outer w = record { input = w; subs = tt; items = column_items-formed (kinds_of q) outer order within }

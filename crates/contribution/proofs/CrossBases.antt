@@ -1,5 +1,6 @@
 -- The cross base of a query whose sources are over tables.
 use Rattle.std.proofs.Common.{◌≡◌, ◌↔◌, ℕ, Bool, true, ◌&&◌, List, [], ◌∷◌, ◌++◌, length, None, IsTrue, refl, sym, ap, ◌∙◌, subst, true≢false}
+use Rattle.perm_values.specs.Rows.{PlacesWithin}
 use Rattle.perm_values.specs.declared.kind.Kind.{Kind}
 use Rattle.std.specs.List.{Contains}
 use Rattle.bag_algebra.proofs.TablesRead.{reads_among-itself}
@@ -12,7 +13,7 @@ use Rattle.bag_algebra.specs.built.Patterns.{BaseOf, FilterOf, ProjectOf, JoinOf
 use Rattle.bag_algebra.specs.Rewriting.{is_plain}
 use Rattle.bag_algebra.specs.Scoped.{is_table, over_tables, subs_over_tables}
 use Rattle.bag_algebra.specs.TablesRead.{tables_read, EachTable, EachSubTable, ReadsAmong}
-use Rattle.bag_algebra.specs.WellFormed.{WellFormed, SubsForm, PlacesIn}
+use Rattle.bag_algebra.specs.WellFormed.{WellFormed, SubsForm}
 use Rattle.bag_algebra.specs.declared.place.Place.{Place}
 use Rattle.bag_algebra.specs.declared.query.Label.{Label}
 use Rattle.bag_algebra.specs.declared.query.Query.{Query, Row_of-Sublink, more_of-Sublink, end_of-Sublink}
@@ -117,9 +118,9 @@ module _ (P : TableSource → Type 0) where
 
 -- the places of the source are in range
 abbrev pub InRange : TableSource → Type 0
-InRange source = PlacesIn (length source.kinds) source.places
+InRange source = PlacesWithin (length source.kinds) source.places
 
-ranged-base : (input : Query) (places : List ℕ) → PlacesIn (length (kinds_of input)) places → EachSource InRange (base_source input places)
+ranged-base : (input : Query) (places : List ℕ) → PlacesWithin (length (kinds_of input)) places → EachSource InRange (base_source input places)
 ranged-base (Table id kinds) places within = some (record { id = id; kinds = kinds; places = places }) within none
 ranged-base other places within = none
 

@@ -1,8 +1,8 @@
 -- The first columns of PROVENANCE are the rows of its query.
-use Rattle.std.proofs.Common.{◌≡◌, ◌↔◌, ℕ, List, ◌++◌, All, IsTrue, length, take, sym, ap, ◌∙◌, subst}
+use Rattle.std.proofs.Common.{◌≡◌, ◌↔◌, ℕ, List, ◌++◌, IsTrue, length, take, sym, ap, ◌∙◌, subst}
 use Rattle.std.proofs.Math.Seq.{take-append_seam}
 use Rattle.perm_values.specs.declared.kind.Kind.{Kind}
-use Rattle.bag_algebra.proofs.Members.{IsIn, member-in}
+use Rattle.bag_algebra.proofs.Members.{member-in}
 use Rattle.bag_algebra.specs.Bags.{Row, Bag, member}
 use Rattle.bag_algebra.specs.Kinds.{width_of}
 use Rattle.bag_algebra.specs.Meaning.{Database, meaning, witnesses}
@@ -11,12 +11,9 @@ use Rattle.bag_algebra.specs.Outcome.{Good}
 use Rattle.bag_algebra.specs.built.Patterns.{ProvOf}
 use Rattle.bag_algebra.specs.declared.query.Query.{Query}
 use Rattle.contribution.proofs.ListedRows.{row-listed, some-in, provenance-pairs}
-use Rattle.bag_algebra.proofs.MembersByIndex.{contains-from_in}
+use Rattle.bag_algebra.proofs.MembersByIndex.{contains-from_in, all-at}
 use Rattle.contribution.proofs.QueryKinds.{rows_have-width}
 use Rattle.contribution.specs.Fitting.{Fitting}
-
-all-of : {X : Type 0} (P : X → Type 0) (xs : List X) (x : X) → All P xs → IsIn x xs → P x
-all-of P xs x all h = let at = contains-from_in x xs h in subst P at.2 (all at.0 x at.1)
 
 cut-off : (width : ℕ) (t more : Row) → length t ≡ width → take width (t ++ more) ≡ t
 cut-off width t more e = subst (λ n. take n (t ++ more) ≡ t) e (take-append_seam t more)
@@ -24,7 +21,7 @@ cut-off width t more e = subst (λ n. take n (t ++ more) ≡ t) e (take-append_s
 module _ (outer : List (List Kind)) (q : Query) (db : Database) (env : List Row) (bag found : Bag) (fitting : Fitting outer q db env)
     (good : meaning q db env ≡ Good bag) (provenance : meaning (ProvOf q) db env ≡ Good found) where
   width : (t : Row) → IsTrue (member t bag) → length t ≡ width_of q
-  width t h = all-of (λ row. length row ≡ width_of q) bag t (rows_have-width outer q db env bag fitting good) (member-in t bag h)
+  width t h = all-at (λ row. length row ≡ width_of q) bag t (rows_have-width outer q db env bag fitting good) (member-in t bag h)
 
   pub first_columns : (t : Row) → IsTrue (member t bag) ↔ ((u : Row) × IsTrue (member u found) × (take (width_of q) u ≡ t))
   first_columns t = (

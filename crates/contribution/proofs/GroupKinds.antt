@@ -3,16 +3,16 @@ use Rattle.std.proofs.Common.{◌≡◌, ℕ, suc, Bool, true, false, cond, not,
 use Rattle.std.specs.Prelude.{⊤, ℤ}
 use Rattle.std.specs.Ordering.{ordering_reverse}
 use Rattle.null_logic.specs.Arithmetic.{fits_64}
-use Rattle.null_logic.specs.Comparison.{is_null}
 use Rattle.null_logic.specs.declared.run_fault.RunFault.TheVariants.{OutOfRange}
 use Rattle.perm_values.specs.Rows.{value_at, picked}
-use Rattle.perm_values.specs.Values.{value_cmp}
+use Rattle.perm_values.specs.Values.{value_cmp, is_null}
 use Rattle.perm_values.specs.declared.kind.Kind.{Kind}
 use Rattle.perm_values.specs.declared.kind.Kind.TheVariants as kind
 use Rattle.perm_values.specs.declared.value.Value.{Value}
 use Rattle.perm_values.specs.declared.value.Value.TheVariants.{Null, Integer}
 use Rattle.bag_algebra.specs.Bags.{Row, Bag}
-use Rattle.bag_algebra.specs.Kinds.{kinds_in}
+use Rattle.bag_algebra.specs.Kinds.{kinds_in, aggregate_kinds}
+use Rattle.bag_algebra.specs.Meaning.{functions_of}
 use Rattle.bag_algebra.specs.Means.{Means, Witness, present, total, sum_of, first_or_null, aggregated, class_keys, class_of, good_row, good_rows, aggregates_of, class_row, grouped, class_lists, aggregate_means}
 use Rattle.bag_algebra.specs.Outcome.{Outcome, Good, Bad, only, each}
 use Rattle.bag_algebra.specs.declared.place.Place.{Place}
@@ -22,7 +22,7 @@ use Rattle.bag_algebra.specs.declared.query.Aggr.{Aggr}
 use Rattle.contribution.proofs.NodeKinds.{with_lists-fit}
 use Rattle.contribution.proofs.RowKinds.{RowFits, BagFits, ListsFit, MeansFit, row_fits-append, picked-fits, each-filter, each-sorted, each-map, each-once, one-fits, lists_fit-flat_map}
 use Rattle.contribution.proofs.ValueKinds.{Fits, GoodFits, null-fits, integer-fits}
-use Rattle.contribution.proofs.WhereGood.{WhereGood, Each, any_value, each-in, each-of, good-mapped, good-and_then, good-both, good-each}
+use Rattle.contribution.proofs.WhereGood.{WhereGood, Every, any_value, each-in, each-of, good-mapped, good-and_then, good-both, good-each}
 use Rattle.contribution.specs.FitsPlaces.{FitsPlaces}
 use Rattle.std.proofs.lemmas.Bool.{and_from}
 
@@ -55,7 +55,7 @@ null-argument Max k = null-fits k
 number-fits : (k : Kind) (z : ℤ) → k ≡ kind.Integer → Fits k (Integer z)
 number-fits k z e = subst (λ l. Fits l (Integer z)) (sym e) (integer-fits z)
 
-first-fits : (k : Kind) (vs : List Value) → Each (Fits k) vs → Fits k (first_or_null vs)
+first-fits : (k : Kind) (vs : List Value) → Every (Fits k) vs → Fits k (first_or_null vs)
 first-fits k [] h = null-fits k
 first-fits k (v ∷ vs) h = h.0
 
@@ -66,7 +66,7 @@ sum-fits k (v ∷ vs) e = at (fits_64 (total (v ∷ vs))) where
   at true = number-fits k (total (v ∷ vs)) e
   at false = tt
 
-pub aggregated-fits : (function : AggFn) (k : Kind) (vs : List Value) → GivesNumber function k → Each (ArgumentFits function k) vs →
+pub aggregated-fits : (function : AggFn) (k : Kind) (vs : List Value) → GivesNumber function k → Every (ArgumentFits function k) vs →
     GoodFits k (aggregated function vs)
 aggregated-fits CountRows k vs e h = number-fits k _ e
 aggregated-fits Count k vs e h = number-fits k _ e
@@ -77,12 +77,6 @@ aggregated-fits Max k vs e h =
     first-fits k _ (each-sorted (Fits k) (λ a b. ordering_reverse (value_cmp a b)) (present vs) (each-filter (Fits k) (λ v. not (is_null v)) vs h))
 
 -- ---- the aggregates of a row, one after another
-
-abbrev pub functions_of : List Aggr → List AggFn
-functions_of aggregates = map (λ (aggregate : Aggr). aggregate.function) aggregates
-
-abbrev pub aggregate_kinds : List Aggr → List Kind
-aggregate_kinds aggregates = map (λ (aggregate : Aggr). aggregate.kind) aggregates
 
 -- the values from a place on are arguments of the aggregates
 abbrev pub ArgumentsFrom : List Aggr → ℕ → Row → Type 0
@@ -100,11 +94,11 @@ arguments-behind [] place v row h = tt
 arguments-behind (aggregate ∷ aggregates) place v row h = (h.0, arguments-behind aggregates (suc place) v row h.1)
 
 pub record NumbersGiven (aggregates : List Aggr) : Type 0 where
-  pub given : Each (λ (aggregate : Aggr). GivesNumber aggregate.function aggregate.kind) aggregates
+  pub given : Every (λ (aggregate : Aggr). GivesNumber aggregate.function aggregate.kind) aggregates
 
 aggregates_of-fits : (aggregates : List Aggr) (place : ℕ) (rows : List Row) →
-    Each (λ (aggregate : Aggr). GivesNumber aggregate.function aggregate.kind) aggregates →
-    Each (ArgumentsFrom aggregates place) rows → WhereGood (RowFits (aggregate_kinds aggregates)) (aggregates_of (functions_of aggregates) place rows)
+    Every (λ (aggregate : Aggr). GivesNumber aggregate.function aggregate.kind) aggregates →
+    Every (ArgumentsFrom aggregates place) rows → WhereGood (RowFits (aggregate_kinds aggregates)) (aggregates_of (functions_of aggregates) place rows)
 aggregates_of-fits [] place rows e h = record { fit = refl }
 aggregates_of-fits (aggregate ∷ aggregates) place rows e h =
     good-both (Fits aggregate.kind) (RowFits (aggregate_kinds aggregates)) (RowFits (aggregate_kinds (aggregate ∷ aggregates))) (λ v vs. v ∷ vs) _ _

@@ -1,8 +1,7 @@
 -- A query's meaning rests on the columns that its outer kinds name alone.
 use Rattle.std.proofs.Common.{◌≡◌, ℕ, zero, suc, true, List, [], ◌∷◌, ◌++◌, map, slice_get, Option, Some, None, refl, sym, ap, true≢false}
-use Rattle.null_logic.specs.Comparison.{is_null}
 use Rattle.perm_values.specs.Rows.{value_at}
-use Rattle.perm_values.specs.Values.{fits, same_value}
+use Rattle.perm_values.specs.Values.{fits, same_value, is_null}
 use Rattle.perm_values.specs.declared.kind.Kind.{Kind}
 use Rattle.perm_values.specs.declared.kind.Kind.TheVariants.{Integer, Boolean}
 use Rattle.perm_values.specs.declared.value.Value.{Value}
@@ -27,7 +26,7 @@ use Rattle.bag_algebra.specs.declared.query.Query.TheVariants.{Table, Single}
 use Rattle.bag_algebra.specs.declared.query.SubKind.{SubKind}
 use Rattle.bag_algebra.specs.declared.query.SubKind.TheVariants as sub
 use Rattle.contribution.proofs.QueryKinds.{each-all}
-use Rattle.contribution.proofs.WhereGood.{Each}
+use Rattle.contribution.proofs.WhereGood.{Every}
 use Rattle.contribution.specs.Longer.{Longer, more_lists, more_items}
 use Rattle.contribution.specs.SameColumns.{SameColumns}
 use Rattle.std.proofs.lemmas.Bool.{and_parts, and_from}
@@ -82,7 +81,7 @@ module _ (scopes : List (List Kind)) (subs : List Kind) (u v : Row) (env other :
 
 module _ (scopes : List (List Kind)) (u v : Row) (env other : List Row) (s : SameColumns scopes (u ∷ env) (v ∷ other)) where
   pub items-same : (subs : List Kind) (answers : List Value) (items : List Item) →
-      Each (λ (item : Item). HasKind scopes subs item.expr item.kind) items →
+      Every (λ (item : Item). HasKind scopes subs item.expr item.kind) items →
       each (λ (item : Item). value item.expr u env answers) items ≡ each (λ (item : Item). value item.expr v other answers) items
   items-same subs answers [] h = refl
   items-same subs answers (item ∷ items) h =
@@ -99,7 +98,7 @@ module _ (scopes : List (List Kind)) (u v : Row) (env other : List Row) (s : Sam
   argument-same Max (Some argument) k f = value-same scopes [] u v env other s [] argument k f.0
 
   pub arguments-same : (aggregates : List Aggr) →
-      Each (λ (aggregate : Aggr). aggr_form aggregate.function aggregate.argument scopes aggregate.kind) aggregates →
+      Every (λ (aggregate : Aggr). aggr_form aggregate.function aggregate.argument scopes aggregate.kind) aggregates →
       arguments_on aggregates env u ≡ arguments_on aggregates other v
   arguments-same [] h = refl
   arguments-same (aggregate ∷ aggregates) h =

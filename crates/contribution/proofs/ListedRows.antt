@@ -1,7 +1,7 @@
 -- Only rows of good answers have witness lists.
-use Rattle.std.proofs.Common.{◌≡◌, ◌≢◌, ◌↔◌, ◌≤◌, inl, Bool, true, false, cond, List, [], ◌∷◌, ◌++◌, Contains, IsTrue, refl, sym, ap, ◌∙◌, subst, arith}
+use Rattle.std.proofs.Common.{◌≡◌, ◌≢◌, ◌↔◌, ◌≤◌, inl, List, [], ◌∷◌, ◌++◌, Contains, IsTrue, refl, sym, ap, ◌∙◌, subst}
 use Rattle.std.specs.List.{flat_map}
-use Rattle.bag_algebra.proofs.BagLaws.{count-once}
+use Rattle.bag_algebra.proofs.BagLaws.{count-once, at_most_one}
 use Rattle.bag_algebra.proofs.Members.{IsIn, in-map, from-map, in-flat_map, from-flat_map, in-member, member-in}
 use Rattle.bag_algebra.specs.Bags.{Row, Bag, member, count, once}
 use Rattle.bag_algebra.specs.built.Openings.{rows-with_lists}
@@ -104,14 +104,10 @@ provenance-found q db env found e =
     by_meaning (Good bag) h = sym (ap good_rows h)
     by_meaning (Bad faults) h = absurd (cc h)
 
-one_or_none : (b : Bool) → cond b 1 0 ≤ 1
-one_or_none true = omega arith
-one_or_none false = omega arith
-
 pub provenance-once : (q : Query) (db : Database) (env : List Row) (found : Bag) (u : Row) → meaning (ProvOf q) db env ≡ Good found → count u found ≤ 1
 provenance-once q db env found u e =
     let rows = beside_lists q db env (good_rows (meaning q db env)) in
-    subst (λ n. n ≤ 1) (sym (ap (count u) (provenance-found q db env found e) ∙ count-once u rows)) (one_or_none (member u rows))
+    subst (λ n. n ≤ 1) (sym (ap (count u) (provenance-found q db env found e) ∙ count-once u rows)) (at_most_one (member u rows))
 
 -- a row beside one of its flattened lists
 abbrev pub IsPair : Query → Database → List Row → Bag → Row → Type 0

@@ -1,14 +1,14 @@
 -- Each variant of an expression is moved where its parts are.
-use Rattle.std.proofs.Common.{◌≡◌, ℕ, zero, suc, ◌≤◌, ◌+◌, ◌<◌, Bool, not, ◌&&◌, List, [], ◌∷◌, ◌++◌, length, Option, Some, None, refl, sym, ap, ◌∙◌, subst, arith, take, get_or}
+use Rattle.std.proofs.Common.{◌≡◌, ℕ, zero, suc, ◌≤◌, ◌+◌, ◌<◌, Bool, not, ◌&&◌, List, [], ◌∷◌, ◌++◌, length, Some, refl, sym, ap, ◌∙◌, subst, arith, take, get_or}
 use Rattle.std.specs.Prelude.{slice_get}
 use Rattle.std.proofs.lemmas.List.{take_more}
+use Rattle.std.proofs.lemmas.Option.{none-some}
 use mathlib.Core.Bool.{beq}
-use Rattle.null_logic.specs.Comparison.{is_null}
 use Rattle.null_logic.specs.declared.arith.Arith.{Arith}
 use Rattle.null_logic.specs.declared.operator.Operator.{Operator}
 use Rattle.null_logic.specs.declared.truth.Truth.{Truth}
-use Rattle.perm_values.specs.Rows.{picked, value_at}
-use Rattle.perm_values.specs.Values.{same_value}
+use Rattle.perm_values.specs.Rows.{picked, value_at, PlacesWithin}
+use Rattle.perm_values.specs.Values.{same_value, is_null}
 use Rattle.perm_values.specs.declared.kind.Kind.{Kind}
 use Rattle.perm_values.specs.declared.kind.Kind.TheVariants.{Integer, Text, Boolean}
 use Rattle.perm_values.specs.declared.value.Value.{Value}
@@ -20,7 +20,7 @@ use Rattle.bag_algebra.specs.FaultFree.{may_fault, parts_faultless, arms_faultle
 use Rattle.bag_algebra.specs.Kinds.{kinds_in}
 use Rattle.bag_algebra.specs.Outcome.{Outcome, Good, and_then, mapped, both, both_then}
 use Rattle.bag_algebra.specs.built.Patterns.{ChainOf, CaseOf, IsNullOf, IsTruthOf, SameOf}
-use Rattle.bag_algebra.specs.WellFormed.{PartsHave, StepsHave, ArmsHave, PlacesIn, op_form, is_additive, steps_are, number_of_parts, number_of_steps, number_of_arms}
+use Rattle.bag_algebra.specs.WellFormed.{PartsHave, StepsHave, ArmsHave, op_form, is_additive, steps_are, number_of_parts, number_of_steps, number_of_arms}
 use Rattle.bag_algebra.specs.declared.expr.Arm.{Arm}
 use Rattle.bag_algebra.specs.declared.expr.ChainStep.{ChainStep}
 use Rattle.bag_algebra.specs.declared.expr.Expr.{Expr}
@@ -51,12 +51,8 @@ picked-beyond [] place u beyond = refl
 picked-beyond (o ∷ order) zero u beyond = absurd (omega (arith, beyond))
 picked-beyond (o ∷ order) (suc place) u beyond = picked-beyond order place u (omega (arith, beyond))
 
-abbrev given : Option Kind → Type 0
-given None = Unit
-given (Some kind) = ⊥
-
 kinds-beyond : (kinds : List Kind) (order : List ℕ) (place : ℕ) (kind : Kind) → length order ≤ place → slice_get (kinds_in kinds order) place ≡ Some kind → ⊥
-kinds-beyond kinds [] place kind beyond e = subst given e tt
+kinds-beyond kinds [] place kind beyond e = none-some kind e
 kinds-beyond kinds (o ∷ order) zero kind beyond e = absurd (omega (arith, beyond))
 kinds-beyond kinds (o ∷ order) (suc place) kind beyond e = kinds-beyond kinds order place kind (omega (arith, beyond)) e
 
@@ -123,7 +119,7 @@ module _ (order : List ℕ) where
   parts-faultless (e ∷ es) [] m = absurd m
   parts-faultless (e ∷ es) (p ∷ ps) m = λ i. m.0.faultless i && parts-faultless es ps m.1 i
 
-  module _ (kinds : List Kind) (outer : List (List Kind)) (subs : List Kind) (within : PlacesIn (length kinds) order) where
+  module _ (kinds : List Kind) (outer : List (List Kind)) (subs : List Kind) (within : PlacesWithin (length kinds) order) where
     parts-have : (kind : Kind) (es ps : List Expr) → PartsMoved order es ps →
         PartsHave (kinds_in kinds order ∷ outer) subs (row_of_parts es) kind → PartsHave (kinds ∷ outer) subs (row_of_parts ps) kind
     unfolding shape-the_row-Expr-0 hidden-the_row-Expr-0 package.denote.Hole.Carrier.hidden
@@ -168,7 +164,7 @@ module _ (order : List ℕ) where
   steps-level additive (e ∷ es) [] m = absurd m
   steps-level additive (e ∷ es) (p ∷ ps) m = λ i. beq (is_additive (m.0.op i)) additive && steps-level additive es ps m.1 i
 
-  module _ (kinds : List Kind) (outer : List (List Kind)) (subs : List Kind) (within : PlacesIn (length kinds) order) where
+  module _ (kinds : List Kind) (outer : List (List Kind)) (subs : List Kind) (within : PlacesWithin (length kinds) order) where
     steps-have : (es ps : List ChainStep) → StepsMoved order es ps →
         StepsHave (kinds_in kinds order ∷ outer) subs (row_of_steps es) → StepsHave (kinds ∷ outer) subs (row_of_steps ps)
     unfolding shape-the_row-ChainStep-2 hidden-the_row-ChainStep-2 package.denote.Hole.Carrier.hidden
@@ -218,7 +214,7 @@ module _ (order : List ℕ) where
   arms-faultless (e ∷ es) [] m = absurd m
   arms-faultless (e ∷ es) (p ∷ ps) m = λ i. (m.0.condition.faultless i && m.0.value.faultless i) && arms-faultless es ps m.1 i
 
-  module _ (kinds : List Kind) (outer : List (List Kind)) (subs : List Kind) (within : PlacesIn (length kinds) order) where
+  module _ (kinds : List Kind) (outer : List (List Kind)) (subs : List Kind) (within : PlacesWithin (length kinds) order) where
     arms-have : (kind : Kind) (es ps : List Arm) → ArmsMoved order es ps →
         ArmsHave (kinds_in kinds order ∷ outer) subs (row_of_arms es) kind → ArmsHave (kinds ∷ outer) subs (row_of_arms ps) kind
     unfolding shape-the_row-Arm-3 hidden-the_row-Arm-3 package.denote.Hole.Carrier.hidden

@@ -15,7 +15,7 @@ use Rattle.bag_algebra.specs.declared.place.Place.{Place}
 use Rattle.bag_algebra.specs.declared.query.JoinKind.{JoinKind}
 use Rattle.bag_algebra.specs.declared.query.Label.{Label}
 use Rattle.contribution.proofs.RowKinds.{RowFits, BagFits, ListsFit, MeansFit, row_fits-append, nulls-fit, picked-fits, each-filter, each-where, each-take, each-sorted, each-map, each-once, each-union_of, each-intersect_of, each-except_of, good_rows-each, fits_places-append, flat-fits, one-fits, none-fit, lists_fit-append, lists_fit-where, lists_fit-flat_map, lists_fit-map, lists_fit-paired, ContributionsFit, lists_fit-beside}
-use Rattle.contribution.proofs.WhereGood.{WhereGood, Each, each-append, each-in, each-of, good-mapped, good-and_then, good-both, good-both_then, good-gather, good-each, any_value}
+use Rattle.contribution.proofs.WhereGood.{WhereGood, Every, every-append, each-in, each-of, good-mapped, good-and_then, good-both, good-both_then, good-gather, good-each, any_value}
 use Rattle.contribution.specs.FitsPlaces.{FitsPlaces, no_place, held}
 
 module _ {kinds : List Kind} {places : List Place} where
@@ -84,15 +84,15 @@ module _ (left_kinds right_kinds : List Kind) (condition : Row → Outcome Value
       let P : Row → Type 0 = RowFits (left_kinds ++ right_kinds) in
       let lefts : Bag = map (λ u. u ++ nulls (length right_kinds)) (unmatched_left condition us vs) in
       let rights : Bag = map (λ v. nulls (length left_kinds) ++ v) (unmatched_right condition us vs) in
-      let left_fit : Each P lefts =
+      let left_fit : Every P lefts =
       each-map (RowFits left_kinds) P (λ u. u ++ nulls (length right_kinds)) (unmatched_left condition us vs) (each-filter (RowFits left_kinds) _ us f)
       (λ u h. row_fits-append u (nulls (length right_kinds)) left_kinds right_kinds h (nulls-fit right_kinds)) in
-      let right_fit : Each P rights =
+      let right_fit : Every P rights =
       each-map (RowFits right_kinds) P (λ v. nulls (length left_kinds) ++ v) (unmatched_right condition us vs) (each-filter (RowFits right_kinds) _ vs g)
       (λ v h. row_fits-append (nulls (length left_kinds)) v left_kinds right_kinds (nulls-fit left_kinds) h) in
-      good-mapped (Each P) (Each P) (λ pairs. pairs ++ cond (keeps_left kind) lefts [] ++ cond (keeps_right kind) rights []) (met_pairs condition us vs) (met_pairs-fit us vs f g)
-      (λ pairs h. each-append P (pairs ++ cond (keeps_left kind) lefts []) _
-      (each-append P pairs _ h (each-where P (keeps_left kind) lefts [] left_fit tt)) (each-where P (keeps_right kind) rights [] right_fit tt))
+      good-mapped (Every P) (Every P) (λ pairs. pairs ++ cond (keeps_left kind) lefts [] ++ cond (keeps_right kind) rights []) (met_pairs condition us vs) (met_pairs-fit us vs f g)
+      (λ pairs h. every-append P (pairs ++ cond (keeps_left kind) lefts []) _
+      (every-append P pairs _ h (each-where P (keeps_left kind) lefts [] left_fit tt)) (each-where P (keeps_right kind) rights [] right_fit tt))
 
   pub join_means-fit : {left_places right_places sub_places : List Place} (kind : JoinKind) (contributions : Row → List (List Witness)) (blanks : Blanks) (l r : Means) →
       ContributionsOn (left_kinds ++ right_kinds) sub_places contributions →
@@ -163,9 +163,9 @@ module _ (left_kinds right_kinds : List Kind) where
         let Whole : Row → Type 0 = RowFits (left_kinds ++ right_kinds) in
         let beside_left : Row → Outcome Bag = λ u. mapped (under kind (length right_kinds) u) (r u).rows in
         with_lists-fit _ _
-        (good-and_then (BagFits left_kinds) (Each Whole) l.rows (gather beside_left) f.rows (λ us h.
+        (good-and_then (BagFits left_kinds) (Every Whole) l.rows (gather beside_left) f.rows (λ us h.
         good-gather (RowFits left_kinds) Whole beside_left us h (λ u i.
-        good-mapped (BagFits right_kinds) (Each Whole) (under kind (length right_kinds) u) (r u).rows (g u i).rows (λ vs j. under-fits kind u vs i j))))
+        good-mapped (BagFits right_kinds) (Every Whole) (under kind (length right_kinds) u) (r u).rows (g u i).rows (λ vs j. under-fits kind u vs i j))))
         (λ t h. lists_fit-flat_map _ (good_rows l.rows) (λ u i.
         lists_under-fit (l.lists u) (r u).lists t u (good_rows (r u).rows) (f.lists u)
         (g u (each-in (RowFits left_kinds) u (good_rows l.rows) (good_rows-each (RowFits left_kinds) l.rows f.rows) i)).lists))
@@ -211,7 +211,7 @@ module _ {kinds : List Kind} {places : List Place} (m : Means) (f : MeansFit kin
   beside_lists-fit : (bag : Bag) → BagFits kinds bag → BagFits (kinds ++ place_kinds places) (flat_map (with_witnesses m.lists) bag)
   beside_lists-fit [] h = tt
   beside_lists-fit (t ∷ bag) h =
-      each-append (RowFits (kinds ++ place_kinds places)) (with_witnesses m.lists t) (flat_map (with_witnesses m.lists) bag)
+      every-append (RowFits (kinds ++ place_kinds places)) (with_witnesses m.lists t) (flat_map (with_witnesses m.lists) bag)
       (each-of (RowFits (kinds ++ place_kinds places)) (with_witnesses m.lists t) (λ row i. made row (from-map (λ w. t ++ flat w) row (m.lists t) i)))
       (beside_lists-fit bag h.1)
     where

@@ -1,10 +1,11 @@
 -- Databases whose bags are the same give a query one meaning, sublinks included.
 use Rattle.std.proofs.Common.{◌≡◌, ℕ, Bool, true, false, cond, List, [], ◌∷◌, ◌++◌, map, refl, ap, ◌∙◌, subst, subst₂}
-use Rattle.null_logic.specs.Comparison.{compare_values, is_null}
+use Rattle.null_logic.specs.Comparison.{compare_values}
 use Rattle.null_logic.specs.Logic.{is_true, truth_not, value_of}
 use Rattle.null_logic.specs.declared.compare.Compare.{Compare}
 use Rattle.null_logic.specs.declared.truth.Truth.{Truth}
 use Rattle.null_logic.specs.declared.truth.Truth.TheVariants.{True, False, Unknown}
+use Rattle.perm_values.specs.Values.{is_null}
 use Rattle.perm_values.specs.declared.value.Value.{Value}
 use Rattle.perm_values.specs.declared.value.Value.TheVariants.{Boolean}
 use Rattle.bag_algebra.proofs.BagLaws.{Permuted, nothing, onward, turn, joined, permuted-map, permuted-filter, permuted-from_same_bag, same_bag-from_permuted}

@@ -1,23 +1,21 @@
 -- NULLs as items, and NULLs beside the columns of a query.
-use Rattle.std.proofs.Common.{◌≡◌, ℕ, List, [], ◌∷◌, ◌++◌, true, map, length, refl, sym, ap, ◌∙◌, arith, append_assoc}
-use Rattle.perm_values.specs.Rows.{picked, value_at}
-use Rattle.perm_values.specs.Values.{fits}
+use Rattle.std.proofs.Common.{◌≡◌, ℕ, List, [], ◌∷◌, ◌++◌, map, length, refl, sym, ap, ◌∙◌, arith, append_assoc}
+use Rattle.perm_values.specs.Rows.{picked, value_at, PlacesWithin}
 use Rattle.perm_values.specs.declared.kind.Kind.{Kind}
-use Rattle.perm_values.specs.declared.kind.Kind.TheVariants.{Integer, Text, Boolean}
 use Rattle.perm_values.specs.declared.value.Value.TheVariants.{Null}
+use Rattle.perm_values.proofs.Fits.{null-fits}
 use Rattle.bag_algebra.proofs.Columns.{column_items-give, each-good}
 use Rattle.bag_algebra.specs.Bags.{Row, Bag, nulls}
 use Rattle.bag_algebra.specs.ColumnItems.{column_items}
-use Rattle.bag_algebra.specs.Kinds.{kinds_of, kinds_in, width_of}
+use Rattle.bag_algebra.specs.Kinds.{kinds_of, kinds_in, width_of, item_kinds}
 use Rattle.bag_algebra.specs.Meaning.{Database, meaning, items_on}
 use Rattle.bag_algebra.specs.Means.{no_subs}
 use Rattle.bag_algebra.specs.Outcome.{Outcome, Good, Bad, and_then, mapped, both, each}
 use Rattle.bag_algebra.specs.built.Patterns.{ProjectOf}
-use Rattle.bag_algebra.specs.WellFormed.{WellFormed, PlacesIn, ItemsForm, HasKind}
+use Rattle.bag_algebra.specs.WellFormed.{WellFormed, ItemsForm, HasKind}
 use Rattle.bag_algebra.specs.declared.expr.Item.{Item}
 use Rattle.bag_algebra.specs.declared.query.Query.{Query, end_of-Sublink}
 use Rattle.contribution.proofs.ColumnQueries.{all-nothing, all-first, all-rest, column_items-kinds, column_items-formed}
-use Rattle.contribution.specs.ItemKinds.{item_kinds}
 use Rattle.contribution.specs.NullItems.{null_item, padded_items, padded_row}
 use Rattle.bag_algebra.specs.built.Openings.{rows-with_lists}
 
@@ -31,16 +29,11 @@ pub null_items-give : (kinds : List Kind) (env : List Row) (u : Row) → items_o
 null_items-give [] env u = refl
 null_items-give (kind ∷ kinds) env u = ap (both (λ v vs. v ∷ vs) (Good Null)) (null_items-give kinds env u)
 
-null_fits : (kind : Kind) → fits Null kind ≡ true
-null_fits Integer = refl
-null_fits Text = refl
-null_fits Boolean = refl
-
 pub null_items-formed : (kinds : List Kind) (scopes : List (List Kind)) → ItemsForm scopes [] (map null_item kinds)
 null_items-formed [] scopes = all-nothing _
 null_items-formed (kind ∷ kinds) scopes =
     all-first (λ (item : Item). HasKind scopes [] item.expr item.kind) (null_item kind) (map null_item kinds)
-    (record { fitting = null_fits kind; gives = refl }) (null_items-formed kinds scopes)
+    (record { fitting = null-fits kind; gives = refl }) (null_items-formed kinds scopes)
 
 -- ---- items before others
 
@@ -100,7 +93,7 @@ module _ (q : Query) (before : List ℕ) (kinds : List Kind) (behind : List ℕ)
     by_input (Good bag) = each-good (padded_row before (length kinds) behind) (items_on items env no_subs) (padded-give env) bag
     by_input (Bad faults) = refl
 
-  pub formed-padded : PlacesIn (width_of q) before → PlacesIn (width_of q) behind → (outer : List (List Kind)) → WellFormed outer q → WellFormed outer padded_query
+  pub formed-padded : PlacesWithin (width_of q) before → PlacesWithin (width_of q) behind → (outer : List (List Kind)) → WellFormed outer q → WellFormed outer padded_query
   formed-padded within_first within_last outer w =
       let scopes = kinds_of q ∷ outer in
       let parts : ItemsForm scopes [] items =

@@ -31,14 +31,14 @@ use Rattle.contribution.proofs.NodeKinds.{ContributionsOn, unlisted_means-fit, b
 use Rattle.contribution.proofs.RowKinds.{RowFits, BagFits, ListsFit, MeansFit, row_fits-length, value_at-fits, all_empty-fits, fits_places-append, one-fits, lists_fit-flat_map, lists_fit-where, no_sublink, next_sublink}
 use Rattle.bag_algebra.proofs.MembersByIndex.{in-from_contains, all-from_in}
 use Rattle.contribution.proofs.ValueKinds.{Fits, GoodFits, null-fits, truth-fits, boolean-fits, fits-begins, value-fits}
-use Rattle.contribution.proofs.WhereGood.{WhereGood, Each, any_value, each-in, good-and_then, good-both, good-both_then}
+use Rattle.contribution.proofs.WhereGood.{WhereGood, Every, any_value, each-in, good-and_then, good-both, good-both_then}
 use Rattle.contribution.specs.Fitting.{Fitting}
 use Rattle.contribution.specs.FitsPlaces.{FitsPlaces, no_place}
 use Rattle.std.proofs.lemmas.Bool.{and_parts, and_from}
 
 -- ---- std's words
 
-pub each-all : {X : Type 0} (P : X → Type 0) (xs : List X) → All P xs → Each P xs
+pub each-all : {X : Type 0} (P : X → Type 0) (xs : List X) → All P xs → Every P xs
 each-all P [] h = tt
 each-all P (x ∷ xs) h = (h 0 x (omega arith), each-all P xs (λ k d i. h (suc k) d (omega arith)))
 
@@ -105,7 +105,7 @@ with_sub-fit {kinds} {query_kinds} {answer_kinds} kind tested m blank s b f more
 
 items-fit : (scopes : List (List Kind)) (answer_kinds : List Kind) (u : Row) (env : List Row) (answers : List Value) →
     env_fits (u ∷ env) scopes ≡ true → row_fits answers answer_kinds ≡ true →
-    (items : List Item) → Each (λ (item : Item). HasKind scopes answer_kinds item.expr item.kind) items →
+    (items : List Item) → Every (λ (item : Item). HasKind scopes answer_kinds item.expr item.kind) items →
     WhereGood (RowFits (map (λ (item : Item). item.kind) items)) (each (λ (item : Item). value item.expr u env answers) items)
 items-fit scopes answer_kinds u env answers e a [] h = record { fit = refl }
 items-fit scopes answer_kinds u env answers e a (item ∷ items) h =
@@ -136,8 +136,8 @@ number_given function.Max argument scopes k h = tt
 
 numbers_given : (scopes : List (List Kind)) (aggregates : List Aggr) → AggregatesForm scopes aggregates → NumbersGiven aggregates
 numbers_given scopes aggregates form = record { given = at aggregates (each-all _ aggregates form) } where
-  at : (aggregates : List Aggr) → Each (λ (aggregate : Aggr). aggr_form aggregate.function aggregate.argument scopes aggregate.kind) aggregates →
-      Each (λ (aggregate : Aggr). GivesNumber aggregate.function aggregate.kind) aggregates
+  at : (aggregates : List Aggr) → Every (λ (aggregate : Aggr). aggr_form aggregate.function aggregate.argument scopes aggregate.kind) aggregates →
+      Every (λ (aggregate : Aggr). GivesNumber aggregate.function aggregate.kind) aggregates
   at [] h = tt
   at (aggregate ∷ aggregates) h = (number_given aggregate.function aggregate.argument scopes aggregate.kind h.0, at aggregates h.1)
 
@@ -154,7 +154,7 @@ module _ (kinds : List Kind) (outer : List (List Kind)) (env : List Row) (u : Ro
   argument-fits function.Max (Some argument) k h = optional_value-fits argument k kinds outer env u s h.0
 
   arguments-fit : (aggregates : List Aggr) →
-      Each (λ (aggregate : Aggr). aggr_form aggregate.function aggregate.argument (kinds ∷ outer) aggregate.kind) aggregates →
+      Every (λ (aggregate : Aggr). aggr_form aggregate.function aggregate.argument (kinds ∷ outer) aggregate.kind) aggregates →
       WhereGood (ArgumentsFrom aggregates 0) (arguments_on aggregates env u)
   arguments-fit [] h = tt
   arguments-fit (aggregate ∷ aggregates) h =

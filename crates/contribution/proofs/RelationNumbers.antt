@@ -1,8 +1,9 @@
 -- The numbers of relations, place by place.
-use Rattle.std.proofs.Common.{◌≡◌, ◌≤◌, ℕ, ◌+◌, Bool, true, false, cond, List, [], ◌∷◌, ◌++◌, length, Option, Some, unwrap_or, nat_eq, count_by, flat_map, take, length-append, length-take, refl, sym, ap, ◌∙◌, arith}
+use Rattle.std.proofs.Common.{◌≡◌, ◌≤◌, ℕ, ◌+◌, Bool, true, false, cond, List, [], ◌∷◌, ◌++◌, length, unwrap_or, nat_eq, count_by, flat_map, take, length-append, length-take, refl, sym, ap, ◌∙◌, arith}
 use Rattle.std.proofs.lemmas.List.Sums.{count_by-le-length, sum_by_push}
 use Rattle.std.specs.Cmp.Lexicographic.{pointwise, nat_list_eq_equiv, bytes_decides}
 use Rattle.std.specs.Map.{lookup}
+use Rattle.perm_values.proofs.Steps.{unwrap-cond}
 use Rattle.bag_algebra.specs.PlaceNames.{relations_of}
 use Rattle.bag_algebra.specs.declared.place.Place.{Place}
 use Rattle.bag_algebra.specs.declared.query.Label.{Label}
@@ -11,10 +12,6 @@ use Rattle.contribution.specs.RelationNumbers.{Numbers, HasPut, earlier_places}
 
 abbrev same : List ℕ → List ℕ → Bool
 same = pointwise nat_eq
-
-at_other : (old : Option ℕ) (b : Bool) (n : ℕ) → unwrap_or (cond b (Some n) old) 0 ≡ cond b n (unwrap_or old 0)
-at_other old true n = refl
-at_other old false n = refl
 
 pub none_yet : Numbers [] []
 none_yet = record { numbers = λ name. refl }
@@ -36,7 +33,7 @@ pub numbers_more : (old new : List (List ℕ × ℕ)) (names : List (List ℕ)) 
 numbers_more old new names name number p h e = record {
   numbers = λ q.
       ap (λ o. unwrap_or o 0) (p.put q)
-      ∙ at_other _ (same name q) number
+      ∙ unwrap-cond _ (same name q) number
       ∙ ap (λ m. cond (same name q) number m) (h.numbers q)
       ∙ one_more names name number e q;
 }

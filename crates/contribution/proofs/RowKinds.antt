@@ -1,4 +1,4 @@
--- Each node keeps its rows of its kinds, and its witness lists of its places.
+-- Every node keeps its rows of its kinds, and its witness lists of its places.
 use Rattle.std.proofs.Common.{◌≡◌, ℕ, zero, suc, inl, inr, Bool, true, false, cond, List, [], ◌∷◌, ◌++◌, map, filter, take, length, Ordering, append_assoc, append-nil, refl, sym, ap, subst, true≢false}
 use Rattle.std.specs.List.{flat_map}
 use Rattle.perm_values.specs.Rows.{value_at, picked, row_fits}
@@ -13,7 +13,7 @@ use Rattle.bag_algebra.specs.Outcome.{Outcome, Good, Bad}
 use Rattle.bag_algebra.specs.declared.place.Place.{Place}
 use Rattle.contribution.proofs.BagMembers.{from-once, from-union, from-intersect, from-except, from-take, from-sorted}
 use Rattle.contribution.proofs.ValueKinds.{Fits, null-fits}
-use Rattle.contribution.proofs.WhereGood.{WhereGood, Each, each-in, each-of}
+use Rattle.contribution.proofs.WhereGood.{WhereGood, Every, each-in, each-of}
 use Rattle.contribution.specs.FitsPlaces.{FitsPlaces, no_place, held, empty}
 use Rattle.std.proofs.lemmas.Bool.{and_parts, and_from}
 
@@ -21,7 +21,7 @@ pub record RowFits (kinds : List Kind) (row : Row) : Type 0 where
   pub fit : row_fits row kinds ≡ true
 
 abbrev pub BagFits : List Kind → Bag → Type 0
-BagFits kinds bag = Each (RowFits kinds) bag
+BagFits kinds bag = Every (RowFits kinds) bag
 
 pub record ListsFit (places : List Place) (ws : List Witness) : Type 0 where
   pub list : (w : Witness) → IsIn w ws → FitsPlaces places w
@@ -72,37 +72,37 @@ row_fits-length (v ∷ row) (k ∷ kinds) e = ap suc (row_fits-length row kinds 
 -- ---- bags
 
 module _ {X : Type 0} (P : X → Type 0) where
-  pub each-filter : (test : X → Bool) (xs : List X) → Each P xs → Each P (filter test xs)
+  pub each-filter : (test : X → Bool) (xs : List X) → Every P xs → Every P (filter test xs)
   each-filter test xs h = each-of P (filter test xs) (λ x i. each-in P x xs h (from-filter test x xs i).0)
 
-  pub each-where : (b : Bool) (xs ys : List X) → Each P xs → Each P ys → Each P (cond b xs ys)
+  pub each-where : (b : Bool) (xs ys : List X) → Every P xs → Every P ys → Every P (cond b xs ys)
   each-where true xs ys h g = h
   each-where false xs ys h g = g
 
-  pub each-take : (n : ℕ) (xs : List X) → Each P xs → Each P (take n xs)
+  pub each-take : (n : ℕ) (xs : List X) → Every P xs → Every P (take n xs)
   each-take n xs h = each-of P (take n xs) (λ x i. each-in P x xs h (from-take x n xs i))
 
-  pub each-sorted : (cmp : X → X → Ordering) (xs : List X) → Each P xs → Each P (sorted cmp xs)
+  pub each-sorted : (cmp : X → X → Ordering) (xs : List X) → Every P xs → Every P (sorted cmp xs)
   each-sorted cmp xs h = each-of P (sorted cmp xs) (λ x i. each-in P x xs h (from-sorted cmp x xs i))
 
-pub each-map : {X Y : Type 0} (P : X → Type 0) (Q : Y → Type 0) (f : X → Y) (xs : List X) → Each P xs → ((x : X) → P x → Q (f x)) → Each Q (map f xs)
+pub each-map : {X Y : Type 0} (P : X → Type 0) (Q : Y → Type 0) (f : X → Y) (xs : List X) → Every P xs → ((x : X) → P x → Q (f x)) → Every Q (map f xs)
 each-map P Q f [] h next = tt
 each-map P Q f (x ∷ xs) h next = (next x h.0, each-map P Q f xs h.1 next)
 
 module _ (P : Row → Type 0) where
-  pub each-once : (us : Bag) → Each P us → Each P (once us)
+  pub each-once : (us : Bag) → Every P us → Every P (once us)
   each-once us h = each-of P (once us) (λ t i. each-in P t us h (from-once t us i))
 
-  pub each-union_of : (all : Bool) (us vs : Bag) → Each P us → Each P vs → Each P (union_of all us vs)
+  pub each-union_of : (all : Bool) (us vs : Bag) → Every P us → Every P vs → Every P (union_of all us vs)
   each-union_of all us vs h g = each-of P (union_of all us vs) (λ t i. elim (from-union all t us vs i) [ inl l ↦ each-in P t us h l | inr r ↦ each-in P t vs g r ])
 
-  pub each-intersect_of : (all : Bool) (us vs : Bag) → Each P us → Each P (intersect_of all us vs)
+  pub each-intersect_of : (all : Bool) (us vs : Bag) → Every P us → Every P (intersect_of all us vs)
   each-intersect_of all us vs h = each-of P (intersect_of all us vs) (λ t i. each-in P t us h (from-intersect all t us vs i).0)
 
-  pub each-except_of : (all : Bool) (us vs : Bag) → Each P us → Each P (except_of all us vs)
+  pub each-except_of : (all : Bool) (us vs : Bag) → Every P us → Every P (except_of all us vs)
   each-except_of all us vs h = each-of P (except_of all us vs) (λ t i. each-in P t us h (from-except all t us vs i))
 
-pub good_rows-each : (P : Row → Type 0) (o : Outcome Bag) → WhereGood (Each P) o → Each P (good_rows o)
+pub good_rows-each : (P : Row → Type 0) (o : Outcome Bag) → WhereGood (Every P) o → Every P (good_rows o)
 good_rows-each P (Good bag) h = h
 good_rows-each P (Bad f) h = tt
 

@@ -3,7 +3,7 @@ use Rattle.std.proofs.Common.{◌≡◌, ℕ, zero, suc, ◌≤◌, ◌<◌, Boo
 use Rattle.std.specs.Prelude.{slice_get, slice_index_or}
 use Rattle.null_logic.specs.Logic.{truth_and, truth_of, value_of}
 use Rattle.null_logic.specs.declared.operator.Operator.TheVariants.{And}
-use Rattle.perm_values.specs.Rows.{picked, same_row, value_at}
+use Rattle.perm_values.specs.Rows.{picked, same_row, value_at, PlacesWithin}
 use Rattle.perm_values.specs.Values.{same_value}
 use Rattle.perm_values.specs.declared.kind.Kind.{Kind}
 use Rattle.perm_values.specs.declared.kind.Kind.TheVariants as kind
@@ -17,7 +17,7 @@ use Rattle.bag_algebra.specs.Expressions.{value, all_true, operate, row_at}
 use Rattle.bag_algebra.specs.FaultFree.{faultless}
 use Rattle.bag_algebra.specs.Kinds.{kind_in, kinds_in}
 use Rattle.bag_algebra.specs.Outcome.{Good, and_then, both}
-use Rattle.bag_algebra.specs.WellFormed.{HasKind, PlacesIn, PartsHave, kind_at_place}
+use Rattle.bag_algebra.specs.WellFormed.{HasKind, PartsHave, kind_at_place}
 use Rattle.bag_algebra.specs.declared.expr.Expr.{Expr}
 use Rattle.bag_algebra.specs.declared.expr.Expr.TheVariants.{Col}
 use Rattle.contribution.proofs.ColumnQueries.{all-rest, kind_there}
@@ -127,7 +127,7 @@ module _ (kinds : List Kind) (outer : List (List Kind)) (subs : List Kind) where
           gives = refl;
         })
 
-    tests-formed : (theirs own : List ℕ) → PlacesIn (length others) theirs → PlacesIn (length kinds) own → kinds_in others theirs ≡ kinds_in kinds own →
+    tests-formed : (theirs own : List ℕ) → PlacesWithin (length others) theirs → PlacesWithin (length kinds) own → kinds_in others theirs ≡ kinds_in kinds own →
         PartsHave scopes subs (row_of_parts (same_tests level theirs own)) kind.Boolean
     tests-formed [] own ts os e = no_parts-have scopes subs kind.Boolean
     tests-formed (t ∷ theirs) [] ts os e = no_parts-have scopes subs kind.Boolean
@@ -137,7 +137,7 @@ module _ (kinds : List Kind) (outer : List (List Kind)) (subs : List Kind) where
         (tests-formed theirs own (all-rest (λ place. place < length others) t theirs ts) (all-rest (λ place. place < length kinds) o own os)
         (rest-same _ _ _ _ e))
 
-    pub conjunction-formed : (theirs own : List ℕ) → PlacesIn (length others) theirs → PlacesIn (length kinds) own → kinds_in others theirs ≡ kinds_in kinds own →
+    pub conjunction-formed : (theirs own : List ℕ) → PlacesWithin (length others) theirs → PlacesWithin (length kinds) own → kinds_in others theirs ≡ kinds_in kinds own →
         HasKind scopes subs (all_hold (same_tests level theirs own)) kind.Boolean
     conjunction-formed [] own ts os e = record { fitting = refl; gives = refl }
     conjunction-formed (t ∷ theirs) [] ts os e = record { fitting = refl; gives = refl }
@@ -155,10 +155,10 @@ tests-faultless level [] own = refl
 tests-faultless level (t ∷ theirs) [] = refl
 tests-faultless level (t ∷ theirs) (o ∷ own) = λ i. faultless-Same (Col level t) (Col 0 o) i && tests-faultless level theirs own i
 
-conjunction-of-faultless : (tests : List Expr) → all_parts_faultless tests ≡ true → faultless (all_hold tests) ≡ true
-conjunction-of-faultless [] h = refl
-conjunction-of-faultless (test ∷ []) h = sym (and_true (faultless test)) ∙ h
-conjunction-of-faultless (test ∷ other ∷ tests) h = faultless-Op And (test ∷ other ∷ tests) ∙ h
+pub all_hold-faultless : (tests : List Expr) → all_parts_faultless tests ≡ true → faultless (all_hold tests) ≡ true
+all_hold-faultless [] h = refl
+all_hold-faultless (test ∷ []) h = sym (and_true (faultless test)) ∙ h
+all_hold-faultless (test ∷ other ∷ tests) h = faultless-Op And (test ∷ other ∷ tests) ∙ h
 
 pub conjunction-faultless : (level : ℕ) (theirs own : List ℕ) → faultless (all_hold (same_tests level theirs own)) ≡ true
-conjunction-faultless level theirs own = conjunction-of-faultless (same_tests level theirs own) (tests-faultless level theirs own)
+conjunction-faultless level theirs own = all_hold-faultless (same_tests level theirs own) (tests-faultless level theirs own)

@@ -1,10 +1,11 @@
 -- A query reads its own tables alone, and the order of their rows decides nothing of what fits it.
-use Rattle.std.proofs.Common.{◌≡◌, Bool, true, false, ◌&&◌, List, ◌∷◌, map, refl, sym, ap, ◌∙◌}
+use Rattle.std.proofs.Common.{◌≡◌, Bool, true, ◌&&◌, List, ◌∷◌, map, refl, sym, ap, ◌∙◌}
 use Rattle.std.specs.List.{list_all}
 use Rattle.perm_values.specs.Rows.{row_fits}
 use Rattle.perm_values.specs.declared.kind.Kind.{Kind}
 use Rattle.bag_algebra.proofs.TablesRead.{each_table-both}
 use Rattle.bag_algebra.proofs.BagLaws.{Permuted, nothing, onward, turn, joined, permuted-from_same_bag}
+use Rattle.bag_algebra.proofs.Truths.{and_turn}
 use Rattle.bag_algebra.specs.Bags.{Row, Bag, SameBag}
 use Rattle.bag_algebra.specs.Fits.{bag_fits, TablesFit}
 use Rattle.bag_algebra.specs.Kinds.{shape, width_of}
@@ -58,11 +59,6 @@ mutual
       λ i. with_sub kind (optional_value tested env) (λ u. denote-equal_tables query db other (u ∷ env) e.0 i) (all_empty (shape query)) (sub_denote-equal_tables subs db other env e.1 i)
 
 -- ---- the same bags
-
-and_turn : (a b c : Bool) → (a && (b && c)) ≡ (b && (a && c))
-and_turn true b c = refl
-and_turn false true c = refl
-and_turn false false c = refl
 
 all-permuted : {X : Type 0} (test : X → Bool) {us vs : List X} → Permuted us vs → list_all test us ≡ list_all test vs
 all-permuted test nothing = refl

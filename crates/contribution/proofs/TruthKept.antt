@@ -2,11 +2,12 @@
 use Rattle.std.proofs.Common.{◌≡◌, inl, inr, Bool, true, false, cond, ◌||◌, List, [], ◌∷◌, map, filter, refl, sym, ap, ◌∙◌}
 use Rattle.std.specs.List.{list_any}
 use mathlib.Core.Bool.{true≢false}
-use Rattle.null_logic.specs.Comparison.{compare_values, is_null}
+use Rattle.null_logic.specs.Comparison.{compare_values}
 use Rattle.null_logic.specs.Logic.{is_true, truth_not, value_of}
 use Rattle.null_logic.specs.declared.compare.Compare.{Compare}
 use Rattle.null_logic.specs.declared.truth.Truth.{Truth}
 use Rattle.null_logic.specs.declared.truth.Truth.TheVariants.{True, False, Unknown}
+use Rattle.perm_values.specs.Values.{is_null}
 use Rattle.perm_values.specs.declared.value.Value.{Value}
 use Rattle.bag_algebra.proofs.Members.{IsIn, in-filter, from-filter, one_of}
 use Rattle.bag_algebra.specs.Bags.{Row, Bag}

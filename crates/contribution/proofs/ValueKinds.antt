@@ -3,7 +3,7 @@ use Rattle.std.proofs.Common.{◌≡◌, ℕ, zero, suc, Bool, true, false, cond
 use Rattle.std.specs.Prelude.{⊤}
 use Rattle.std.specs.Prelude.{ℤ, Result, Ok, Err}
 use Rattle.null_logic.specs.Arithmetic.{calculate, negate}
-use Rattle.null_logic.specs.Comparison.{compare_values, is_null, between, in_list}
+use Rattle.null_logic.specs.Comparison.{compare_values, between, in_list}
 use Rattle.null_logic.specs.Logic.{value_of, is_true, truth_of, truth_not}
 use Rattle.null_logic.specs.declared.arith.Arith.{Arith}
 use Rattle.null_logic.specs.declared.operator.Operator.{Operator}
@@ -12,7 +12,7 @@ use Rattle.null_logic.specs.declared.run_fault.RunFault.{RunFault}
 use Rattle.null_logic.specs.declared.truth.Truth.{Truth}
 use Rattle.null_logic.specs.declared.truth.Truth.TheVariants.{True, False, Unknown}
 use Rattle.perm_values.specs.Rows.{value_at, row_fits}
-use Rattle.perm_values.specs.Values.{fits, same_value}
+use Rattle.perm_values.specs.Values.{fits, same_value, is_null}
 use Rattle.perm_values.specs.declared.kind.Kind.{Kind}
 use Rattle.perm_values.specs.declared.kind.Kind.TheVariants as kind
 use Rattle.perm_values.specs.declared.value.Value.{Value}
@@ -25,7 +25,7 @@ use Rattle.bag_algebra.specs.built.Patterns.{OpOf, ChainOf, CaseOf, IsNullOf, Is
 use Rattle.bag_algebra.specs.WellFormed.{column_kind, OpForm, op_form, HasKind, PartsHave, ArmsHave, number_of_parts}
 use Rattle.bag_algebra.specs.declared.expr.Expr.{Expr, Row_of-Expr, Row_of-Arm, more_of-Expr, end_of-Expr, more_of-Arm, end_of-Arm}
 use Rattle.bag_algebra.specs.declared.expr.Expr.TheVariants.{Col, Lit, Sub}
-use Rattle.contribution.proofs.WhereGood.{WhereGood, Each, any_value, good-mapped, good-and_then, good-both, good-both_then}
+use Rattle.contribution.proofs.WhereGood.{WhereGood, Every, any_value, good-mapped, good-and_then, good-both, good-both_then}
 use Rattle.std.proofs.lemmas.Bool.{and_parts, and_from}
 
 pub record Fits (kind : Kind) (v : Value) : Type 0 where
@@ -134,11 +134,11 @@ either-fits : (kind : Kind) (b : Bool) (v w : Value) → Fits kind v → Fits ki
 either-fits kind true v w h g = h
 either-fits kind false v w h g = g
 
-coalesce-fits : (kind : Kind) (vs : List Value) → Each (Fits kind) vs → Fits kind (coalesce vs)
+coalesce-fits : (kind : Kind) (vs : List Value) → Every (Fits kind) vs → Fits kind (coalesce vs)
 coalesce-fits kind [] h = null-fits kind
 coalesce-fits kind (v ∷ vs) h = either-fits kind (is_null v) (coalesce vs) v (coalesce-fits kind vs h.1) h.0
 
-null_if-fits : (kind : Kind) (vs : List Value) → Each (Fits kind) vs → GoodFits kind (with_two vs (λ a b. Good (null_if a b)))
+null_if-fits : (kind : Kind) (vs : List Value) → Every (Fits kind) vs → GoodFits kind (with_two vs (λ a b. Good (null_if a b)))
 null_if-fits kind [] h = null-fits kind
 null_if-fits kind (a ∷ []) h = null-fits kind
 null_if-fits kind (a ∷ b ∷ vs) h = either-fits kind _ Null a (null-fits kind) h.0
@@ -152,7 +152,7 @@ given_kind given kind o form h = subst (λ k. GoodFits k o) (sym form.gives) h
 
 -- an operator on good parts, which have the kinds that it needs
 operate-fits : (o : Operator) (n : ℕ) (all_have : Kind → Type 0) (given : Kind) (vs : Outcome (List Value)) → op_form o n all_have given →
-    ((k : Kind) → all_have k → WhereGood (Each (Fits k)) vs) → GoodFits given (and_then vs (operate o))
+    ((k : Kind) → all_have k → WhereGood (Every (Fits k)) vs) → GoodFits given (and_then vs (operate o))
 operate-fits o n all_have given (Bad f) form parts = tt
 operate-fits op.And n all_have given (Good vs) form parts = given_kind kind.Boolean given (operate op.And vs) form (truth-fits (all_true vs))
 operate-fits op.Or n all_have given (Good vs) form parts = given_kind kind.Boolean given (operate op.Or vs) form (truth-fits (some_true vs))
@@ -210,10 +210,10 @@ module _ (scopes : List (List Kind)) (sub_kinds : List Kind) (u : Row) (env : Li
         (any_value (value first u env answers)) (any_value (value second u env answers)) (λ v w h g. boolean-fits (same_value v w)))
 
     values-fit : {m : _} (parts : Row_of-Expr m) (k : Kind) → PartsHave scopes sub_kinds parts k →
-        WhereGood (Each (Fits k)) (values parts u env answers)
+        WhereGood (Every (Fits k)) (values parts u env answers)
     values-fit end_of-Expr k form = tt
     values-fit (more_of-Expr part parts) k form =
-        good-both (Fits k) (Each (Fits k)) (Each (Fits k)) (λ v vs. v ∷ vs) (value part u env answers) (values parts u env answers)
+        good-both (Fits k) (Every (Fits k)) (Every (Fits k)) (λ v vs. v ∷ vs) (value part u env answers) (values parts u env answers)
         (value-fits part k form.0) (values-fit parts k form.1) (λ v vs h g. (h, g))
 
     arm_value-fits : {m : _} (arms : Row_of-Arm m) (k : Kind) (otherwise : Outcome Value) → ArmsHave scopes sub_kinds arms k → GoodFits k otherwise →

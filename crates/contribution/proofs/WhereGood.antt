@@ -13,20 +13,20 @@ any_value (Good x) = tt
 any_value (Bad f) = tt
 
 -- each item of the list
-abbrev pub Each : {X : Type 0} → (X → Type 0) → List X → Type 0
-Each P [] = ⊤
-Each P (x ∷ xs) = P x × Each P xs
+abbrev pub Every : {X : Type 0} → (X → Type 0) → List X → Type 0
+Every P [] = ⊤
+Every P (x ∷ xs) = P x × Every P xs
 
-pub each-append : {X : Type 0} (P : X → Type 0) (xs ys : List X) → Each P xs → Each P ys → Each P (xs ++ ys)
-each-append P [] ys h g = g
-each-append P (x ∷ xs) ys h g = (h.0, each-append P xs ys h.1 g)
+pub every-append : {X : Type 0} (P : X → Type 0) (xs ys : List X) → Every P xs → Every P ys → Every P (xs ++ ys)
+every-append P [] ys h g = g
+every-append P (x ∷ xs) ys h g = (h.0, every-append P xs ys h.1 g)
 
-pub each-in : {X : Type 0} (P : X → Type 0) (x : X) (xs : List X) → Each P xs → IsIn x xs → P x
+pub each-in : {X : Type 0} (P : X → Type 0) (x : X) (xs : List X) → Every P xs → IsIn x xs → P x
 each-in P x [] h i = absurd i
 each-in P x (y ∷ ys) h (inl e) = subst P e h.0
 each-in P x (y ∷ ys) h (inr i) = each-in P x ys h.1 i
 
-pub each-of : {X : Type 0} (P : X → Type 0) (xs : List X) → ((x : X) → IsIn x xs → P x) → Each P xs
+pub each-of : {X : Type 0} (P : X → Type 0) (xs : List X) → ((x : X) → IsIn x xs → P x) → Every P xs
 each-of P [] h = tt
 each-of P (x ∷ xs) h = (h x (inl refl), each-of P xs (λ y i. h y (inr i)))
 
@@ -56,13 +56,13 @@ module _ {X Y Z : Type 0} (P : X → Type 0) (Q : Y → Type 0) (R : Z → Type 
   good-both_then (Bad a) (Bad b) k h g next = tt
 
 module _ {X Y : Type 0} (P : X → Type 0) (Q : Y → Type 0) where
-  pub good-gather : (f : X → Outcome (List Y)) (xs : List X) → Each P xs → ((x : X) → P x → WhereGood (Each Q) (f x)) →
-      WhereGood (Each Q) (gather f xs)
+  pub good-gather : (f : X → Outcome (List Y)) (xs : List X) → Every P xs → ((x : X) → P x → WhereGood (Every Q) (f x)) →
+      WhereGood (Every Q) (gather f xs)
   good-gather f [] h next = tt
   good-gather f (x ∷ xs) h next =
-      good-both (Each Q) (Each Q) (Each Q) (λ y ys. y ++ ys) (f x) (gather f xs) (next x h.0) (good-gather f xs h.1 next) (λ ys zs i j. each-append Q ys zs i j)
+      good-both (Every Q) (Every Q) (Every Q) (λ y ys. y ++ ys) (f x) (gather f xs) (next x h.0) (good-gather f xs h.1 next) (λ ys zs i j. every-append Q ys zs i j)
 
-  pub good-each : (f : X → Outcome Y) (xs : List X) → Each P xs → ((x : X) → P x → WhereGood Q (f x)) → WhereGood (Each Q) (each f xs)
+  pub good-each : (f : X → Outcome Y) (xs : List X) → Every P xs → ((x : X) → P x → WhereGood Q (f x)) → WhereGood (Every Q) (each f xs)
   good-each f [] h next = tt
   good-each f (x ∷ xs) h next =
-      good-both Q (Each Q) (Each Q) (λ y ys. y ∷ ys) (f x) (each f xs) (next x h.0) (good-each f xs h.1 next) (λ y ys i j. (i, j))
+      good-both Q (Every Q) (Every Q) (λ y ys. y ∷ ys) (f x) (each f xs) (next x h.0) (good-each f xs h.1 next) (λ y ys i j. (i, j))

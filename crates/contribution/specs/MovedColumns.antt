@@ -1,13 +1,13 @@
 -- An expression with the columns of its node's own row at other places.
 use Rattle.std.specs.Prelude.{◌≡◌, ⊤, ℕ, List, [], ◌∷◌, length}
-use Rattle.perm_values.specs.Rows.{picked}
+use Rattle.perm_values.specs.Rows.{picked, PlacesWithin}
 use Rattle.perm_values.specs.declared.kind.Kind.{Kind}
 use Rattle.perm_values.specs.declared.value.Value.{Value}
 use Rattle.bag_algebra.specs.Bags.{Row}
 use Rattle.bag_algebra.specs.Expressions.{value}
 use Rattle.bag_algebra.specs.FaultFree.{faultless}
 use Rattle.bag_algebra.specs.Kinds.{kinds_in}
-use Rattle.bag_algebra.specs.WellFormed.{HasKind, PlacesIn}
+use Rattle.bag_algebra.specs.WellFormed.{HasKind}
 use Rattle.bag_algebra.specs.declared.expr.Arm.{Arm}
 use Rattle.bag_algebra.specs.declared.expr.ChainStep.{ChainStep}
 use Rattle.bag_algebra.specs.declared.expr.Expr.{Expr}
@@ -16,7 +16,7 @@ use Rattle.bag_algebra.specs.declared.expr.Expr.{Expr}
 -- it has the same value, and it has every kind that the first has over the kinds at the places
 pub record IsMoved (order : List ℕ) (expr moved : Expr) : Type 0 where
   pub value : (u : Row) (env : List Row) (subs : List Value) → value moved u env subs ≡ value expr (picked order u) env subs
-  pub kind : (kinds : List Kind) (outer : List (List Kind)) (subs : List Kind) (kind : Kind) → PlacesIn (length kinds) order →
+  pub kind : (kinds : List Kind) (outer : List (List Kind)) (subs : List Kind) (kind : Kind) → PlacesWithin (length kinds) order →
       HasKind (kinds_in kinds order ∷ outer) subs expr kind → HasKind (kinds ∷ outer) subs moved kind
   pub faultless : faultless moved ≡ faultless expr
 

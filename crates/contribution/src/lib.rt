@@ -20,7 +20,7 @@ pub use laws::{
 };
 pub use names::prov_names;
 pub use parts::{
-    always, column_items, columns_at, join_on, moved, null_items, projection, regroup,
-    same_columns, selection,
+    always, column, column_items, columns_at, inwards, join_on, moved, null_items, outwards,
+    projection, regroup, same_columns, selection, sublink_over, table,
 };
 pub use places::{PlaceList, kind_or_text, kinds, kinds_at, shape};

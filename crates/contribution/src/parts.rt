@@ -7,8 +7,8 @@ mod nodes;
 mod nulls;
 mod same;
 
-pub use columns::{column_items, columns_at, regroup};
+pub use columns::{column, column_items, columns_at, regroup};
 pub use moving::moved;
-pub use nodes::{join_on, projection, selection};
+pub use nodes::{inwards, join_on, outwards, projection, selection, sublink_over, table};
 pub use nulls::null_items;
 pub use same::{always, same_columns};

@@ -148,7 +148,8 @@ fn standing(
     query: Query,
 ) -> Result<(List<Sublink>, List<Sublink>), NoMemory>
     ensures stands { IfOk result (λ s. SubsStand s.0 s.1) }
-    ensures sub { IfOk result (λ s. s.0 ≡ record { kind = kind; tested = Some (Col 0 0); query = query } ∷ []) }
+    ensures sub { IfOk result (λ s.
+        s.0 ≡ record { kind = kind; tested = Some (Col 0 0); query = query } ∷ []) }
 {
     let plain = eliminate(alloc, &query);
     let others = comparison(alloc, kind, plain);

@@ -1,5 +1,5 @@
 -- Rows that break no rule fit the kinds of their columns.
-use Rattle.std.proofs.Common.{◌≡◌, ℕ, ◌+◌, Bool, true, false, List, [], ◌∷◌, ◌++◌, length, map, refl, arith, inl, inr}
+use Rattle.std.proofs.Common.{◌≡◌, ℕ, ◌+◌, Bool, true, false, List, [], ◌∷◌, length, map, refl, arith, inl, inr}
 use Rattle.std.proofs.lemmas.Bool.{cases_Bool, eqb-true}
 use Rattle.std.specs.Prelude.{◌==◌, if◌then◌else◌}
 use Rattle.std.specs.Str.{bytes_eq}
@@ -8,25 +8,14 @@ use Rattle.perm_values.specs.Values.{fits}
 use Rattle.perm_values.specs.declared.kind.Kind.{Kind}
 use Rattle.perm_values.specs.declared.kind.Kind.TheVariants as kind
 use Rattle.perm_values.specs.declared.value.Value.TheVariants.{Null}
+use Rattle.perm_values.proofs.Fits.{null-fits}
+use Rattle.perm_values.proofs.Lists.{front-none, back-none}
 use Rattle.csv_tables.specs.Loading.{broken_rules, field_value, record_breaks, records_breaks, row_records, row_values, skipped, spelled, spelled_rows, width_breaks}
-
-front-none : {X : Type 0} (xs ys : List X) → xs ++ ys ≡ [] → xs ≡ []
-front-none [] ys e = refl
-front-none (x ∷ xs) ys e = cc e
-
-back-none : {X : Type 0} (xs ys : List X) → xs ++ ys ≡ [] → ys ≡ []
-back-none [] ys e = e
-back-none (x ∷ xs) ys e = cc e
 
 spelled-fits : (k : Kind) (field : List ℕ) → fits (spelled k field) k ≡ true
 spelled-fits kind.Integer field = refl
 spelled-fits kind.Text field = refl
 spelled-fits kind.Boolean field = refl
-
-null-fits : (k : Kind) → fits Null k ≡ true
-null-fits kind.Integer = refl
-null-fits kind.Text = refl
-null-fits kind.Boolean = refl
 
 field_value-fits : (null_field : List ℕ) (k : Kind) (field : List ℕ) → fits (field_value null_field k field) k ≡ true
 field_value-fits null_field k field = choose (bytes_eq field null_field) where

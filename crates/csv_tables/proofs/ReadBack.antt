@@ -9,10 +9,11 @@ use Rattle.csv.proofs.RoundTrip.{after-quote-same, record-same, start-same}
 use Rattle.csv.specs.Machine.{next_record}
 use Rattle.csv.specs.Reading.{default_config, records, records_from, strip_bom}
 use Rattle.csv.specs.declared.parser.State.TheVariants as st
+use Rattle.perm_values.specs.Values.{is_null}
 use Rattle.perm_values.specs.declared.value.Value.{Value}
 use Rattle.perm_values.specs.declared.value.Value.TheVariants.{Null, Integer, Text, Boolean}
 use Rattle.csv_tables.specs.AnswerText.{answer_bytes, count_line, count_text, escaped, field_text, header_line, quoted, row_line, truth_text}
-use Rattle.csv_tables.specs.ReadBack.{answer_records, header_records, is_blank, is_null, plain_text, row_records}
+use Rattle.csv_tables.specs.ReadBack.{answer_records, header_records, is_blank, plain_text, row_records}
 
 -- ---- bytes that csv only copies
 

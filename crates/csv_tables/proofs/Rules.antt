@@ -10,6 +10,7 @@ use Rattle.csv.specs.Records.{field_at}
 use Rattle.perm_values.specs.declared.kind.Kind.{Kind}
 use Rattle.perm_values.specs.declared.kind.Kind.TheVariants as kind
 use Rattle.perm_values.specs.declared.value.Value.{Value}
+use Rattle.perm_values.proofs.Steps.{is_none-is}
 use Rattle.csv_tables.specs.Loading.{IsFirstBroken, field_breaks, field_value, fields_breaks, first_of, is_integer, kind_breaks, record_breaks, records_breaks, row_values, width_breaks}
 use Rattle.csv_tables.specs.declared.data_error.DataError.{DataError}
 use Rattle.csv_tables.specs.declared.data_error.DataError.TheVariants.{Width, NotInteger, NotText, NoMemory}
@@ -21,10 +22,6 @@ first-append (y ∷ xs) ys x e = e
 first-some : {X : Type 0} (xs ys : List X) → is_some (first_of xs) ≡ true → first_of xs ≡ first_of (xs ++ ys)
 first-some [] ys e = cc e
 first-some (x ∷ xs) ys e = refl
-
-is_none-is : {X : Type 0} (o : Option X) → is_some o ≡ false → o ≡ None
-is_none-is None e = refl
-is_none-is (Some x) e = cc e
 
 -- the first broken rule of some is the first of these and any more
 pub broken-append : (xs ys : List DataError) (e : DataError) → IsFirstBroken xs e → IsFirstBroken (xs ++ ys) e

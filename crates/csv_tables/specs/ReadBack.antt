@@ -2,6 +2,7 @@
 use Rattle.std.specs.Prelude.{ℕ, Bool, true, false, if◌then◌else◌, List, [], ◌∷◌, ◌++◌, map, length}
 use Rattle.std.specs.Fmt.{signed_decimal}
 use Rattle.std.specs.List.{flat_map}
+use Rattle.perm_values.specs.Values.{is_null}
 use Rattle.perm_values.specs.declared.value.Value.{Value}
 use Rattle.perm_values.specs.declared.value.Value.TheVariants.{Null, Integer, Text, Boolean}
 use Rattle.csv_tables.specs.AnswerText.{count_text, truth_text}
@@ -12,12 +13,6 @@ plain_text Null = []
 plain_text (Integer number) = signed_decimal number
 plain_text (Text text) = text
 plain_text (Boolean truth) = truth_text truth
-
-abbrev pub is_null : Value → Bool
-is_null Null = true
-is_null (Integer number) = false
-is_null (Text text) = false
-is_null (Boolean truth) = false
 
 -- the row's line is blank: it has no value, or NULL alone
 abbrev pub is_blank : List Value → Bool

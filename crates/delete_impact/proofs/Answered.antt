@@ -9,7 +9,7 @@ use Rattle.bag_algebra.proofs.BagLaws.{member-filter}
 use Rattle.bag_algebra.proofs.Closing.{query_within}
 use Rattle.bag_algebra.proofs.Members.{IsIn, from-append, in-member, member-in}
 use Rattle.bag_algebra.proofs.NeverBad.{good-value}
-use Rattle.bag_algebra.proofs.Outcomes.{same_good}
+use Rattle.bag_algebra.proofs.Outcomes.{same_good, good-is}
 use Rattle.bag_algebra.proofs.TablesRead.{each_table-told, each_table-from_told, reads_among-itself}
 use Rattle.bag_algebra.proofs.Truths.{both-true, left-true, right-true}
 use Rattle.bag_algebra.specs.Bags.{Row, Bag, member, once, union_of, except_of}
@@ -18,7 +18,7 @@ use Rattle.bag_algebra.specs.FaultFree.{faultless}
 use Rattle.bag_algebra.specs.Fits.{TablesFit}
 use Rattle.bag_algebra.specs.Kinds.{kinds_of}
 use Rattle.bag_algebra.specs.Meaning.{Database, denote, meaning}
-use Rattle.bag_algebra.specs.Outcome.{Faults, Outcome, Good, Bad, is_good, and_then, both, each}
+use Rattle.bag_algebra.specs.Outcome.{Faults, Outcome, Good, Bad, and_then, both, each}
 use Rattle.bag_algebra.specs.Rewriting.{is_plain}
 use Rattle.bag_algebra.specs.TablesRead.{EachTable, tables_read}
 use Rattle.bag_algebra.specs.WellFormed.{WellFormed, HasKind}
@@ -29,7 +29,7 @@ use Rattle.contribution.proofs.NodeQueries.{plain-chosen, formed-chosen}
 use Rattle.contribution.proofs.Agreement.{joined_lists}
 use Rattle.contribution.proofs.SetsOfRows.{Below, below_good}
 use Rattle.contribution.proofs.SharedMembers.{Within}
-use Rattle.contribution.specs.Conjunctions.{always}
+use Rattle.contribution.specs.Conjunctions.{always, condition_or_true}
 use Rattle.query_facts.specs.monotone.Monotone.{is_monotone}
 use Rattle.query_laws.proofs.Once.{holds_once-once}
 use Rattle.query_laws.specs.Holding.{HoldsOnce}
@@ -38,7 +38,7 @@ use Rattle.delete_impact.specs.vanishing.Vanishing.{Vanishes}
 use Rattle.delete_impact.proofs.Below.{below-within}
 use Rattle.delete_impact.proofs.KeptQueries.{KeptRows}
 use Rattle.delete_impact.proofs.VanishingRows.{kept-of}
-use Rattle.delete_impact.specs.Answering.{adds_none, condition_or_true, looked_through, lost, never, no_row_of, vanishing, with_faults}
+use Rattle.delete_impact.specs.Answering.{adds_none, looked_through, lost, never, no_row_of, vanishing, with_faults}
 use Rattle.delete_impact.specs.reduced.Reads.{Unread, IsRead, first_kinds}
 use Rattle.delete_impact.specs.reduced.Hiding.{hides_none}
 use Rattle.delete_impact.specs.reduced.Reduced.{behind, missing, missing_part, over_rows, reduced}
@@ -83,10 +83,6 @@ fits-or_true q id (Some condition) h = h
 same-deletion : (id : ℕ) (condition : Option Expr) (db : Database) → after_deletion id (Some (condition_or_true condition)) db ≡ after_deletion id condition db
 same-deletion id None db = refl
 same-deletion id (Some condition) db = refl
-
-good-of : (o : Outcome Value) → is_good o ≡ true → (v : Value) × (o ≡ Good v)
-good-of (Good v) e = (v, refl)
-good-of (Bad faults) e = absurd (true≢false (sym e))
 
 good-under : {o : Outcome Bag} (us : Bag) → Below o (Good us) → (vs : Bag) × (o ≡ Good vs) × Within vs us
 good-under us (below_good {us = vs} s) = (vs, refl, s)
@@ -166,7 +162,7 @@ module _ (q : Query) (id : ℕ) (given : Option Expr) (kinds : List Kind) (m : i
       shown = right-true (faultless test) (hides_none q) calm
 
       test-good : (u : Row) → IsIn u (db id) → (v : Value) × (value test u [] [] ≡ Good v)
-      test-good u h = good-of (value test u [] []) (good-value test free u [] [])
+      test-good u h = good-is (value test u [] []) (good-value test free u [] [])
 
       part-below : (part : Query) (passes : Row → Bool) → meaning part db [] ≡ meaning q (part_of id passes db) [] → Below (meaning part db []) (meaning q db [])
       part-below part passes is =

@@ -1,11 +1,12 @@
 -- A monotone query in which no fault hides another and no join reads a table on both sides, over some rows of the table and over the others:
 -- each of its rows is a row of one of these, and so is each of its faults.
-use Rattle.std.proofs.Common.{◌≡◌, inl, inr, ℕ, Bool, true, false, cond, not, ◌==◌, ◌&&◌, ◌||◌, Option, Some, None, is_none, List, [], ◌∷◌, ◌++◌, filter, refl, sym, ap, ◌∙◌, subst, subst₂, append-nil}
+use Rattle.std.proofs.Common.{◌≡◌, inl, inr, ℕ, Bool, true, false, cond, not, ◌==◌, ◌&&◌, ◌||◌, Option, Some, None, is_none, List, [], ◌∷◌, ◌++◌, filter, refl, sym, ap, subst, subst₂}
 use mathlib.Core.Bool.{true≢false}
 use Rattle.std.proofs.lemmas.Bool.{eqb-true}
 use Rattle.perm_values.specs.declared.kind.Kind.{Kind}
 use Rattle.bag_algebra.proofs.Members.{IsIn, in-append_left, in-append_right, from-append, in-filter, one_of}
 use Rattle.bag_algebra.proofs.NeverBad.{good-query}
+use Rattle.bag_algebra.proofs.Outcomes.{nothing-behind}
 use Rattle.bag_algebra.proofs.TablesRead.{each_table-kept}
 use Rattle.bag_algebra.proofs.Truths.{left-true, right-true}
 use Rattle.bag_algebra.specs.Bags.{Row, Bag, once, union_of}
@@ -102,13 +103,9 @@ each-parts : (f : Row → Outcome Row) (us vs : Bag) → Below (each f (us ++ vs
 each-parts f us vs =
     subst₂ Below (each-gather f (us ++ vs)) (λ i. joined_lists (each-gather f us i) (each-gather f vs i)) (gather-parts (λ x. mapped (λ y. y ∷ []) (f x)) us vs)
 
-unpadded : (o : Outcome Bag) → o ≡ mapped (λ rows. rows ++ [] ++ []) o
-unpadded (Good us) = ap Good (sym (append-nil (us ++ []) ∙ append-nil us))
-unpadded (Bad f) = refl
-
 module _ (test : Expr) where
   met-is : (us vs : Bag) → met_pairs (condition_on test [] means.no_subs) us vs ≡ pairs test us vs
-  met-is us vs = unpadded (met_pairs (condition_on test [] means.no_subs) us vs)
+  met-is us vs = nothing-behind (met_pairs (condition_on test [] means.no_subs) us vs)
 
   pairs-left : (us vs ws : Bag) → Below (pairs test (us ++ vs) ws) (joined_lists (pairs test us ws) (pairs test vs ws))
   pairs-left us vs ws =

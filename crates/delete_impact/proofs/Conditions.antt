@@ -4,6 +4,7 @@ use Rattle.null_logic.specs.declared.truth.Truth.TheVariants.{True, False}
 use Rattle.perm_values.specs.declared.value.Value.{Value}
 use Rattle.perm_values.specs.declared.value.Value.TheVariants.{Boolean}
 use Rattle.bag_algebra.proofs.Members.{IsIn}
+use Rattle.bag_algebra.proofs.TruthValues.{holds-boolean}
 use Rattle.bag_algebra.specs.Bags.{Row, Bag}
 use Rattle.bag_algebra.specs.Expressions.{value, has_truth}
 use Rattle.bag_algebra.specs.Means.{holds_of, is_met, kept}
@@ -13,7 +14,7 @@ use Rattle.bag_algebra.specs.declared.expr.Expr.{Expr}
 use Rattle.bag_algebra.specs.declared.expr.Expr.TheVariants.{IsTruth}
 use Rattle.delete_impact.specs.vanishing.Doomed.{is_doomed}
 use Rattle.delete_impact.specs.reduced.Reduced.{not_true}
-use Rattle.delete_impact.proofs.Tested.{holds-boolean, is_false}
+use Rattle.delete_impact.proofs.Tested.{is_false}
 
 -- ---- faults alone
 

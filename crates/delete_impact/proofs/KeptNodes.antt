@@ -1,5 +1,6 @@
 -- What a node of a monotone query keeps after a deletion, of what its inputs keep: the rows that have a list without a doomed row.
 use Rattle.std.proofs.Common.{◌≡◌, ℕ, inl, inr, Bool, true, false, cond, ◌+◌, ◌&&◌, List, [], ◌++◌, map, filter, length, Option, refl, sym, ap, ◌∙◌, subst, length-append}
+use Rattle.std.proofs.lemmas.Bool.{or_from}
 use mathlib.Core.Bool.{true≢false}
 use Rattle.std.specs.List.{flat_map}
 use Rattle.perm_values.specs.Rows.{same_row}
@@ -8,6 +9,7 @@ use Rattle.perm_values.specs.declared.value.Value.{Value}
 use Rattle.bag_algebra.proofs.Columns.{in-with_lists, from-with_lists}
 use Rattle.bag_algebra.proofs.Outcomes.{same_good}
 use Rattle.bag_algebra.proofs.Members.{IsIn, in-map, from-map, in-append_left, in-append_right, from-append, in-flat_map, from-flat_map, in-filter, from-filter}
+use Rattle.bag_algebra.proofs.Truths.{left-false, right-false}
 use Rattle.bag_algebra.specs.Bags.{Row, Bag, once, union_of}
 use Rattle.bag_algebra.specs.Means.{Witness, with_lists, kept, gives, good_rows, is_met, joined_rows, paired}
 use Rattle.bag_algebra.specs.Outcome.{Faults, union, Outcome, Good, Bad, and_then, mapped, both, both_then, gather, each}
@@ -24,7 +26,7 @@ use Rattle.query_laws.proofs.Items.{each-in}
 use Rattle.query_laws.proofs.PairedLists.{in-paired, from-paired, in-where, from-where}
 use Rattle.delete_impact.specs.vanishing.Doomed.{has_doomed}
 use Rattle.delete_impact.proofs.Below.{below-within, bad-not_below, gather-fewer, each-fewer, pairs-fewer, mapped-fewer, once-fewer, union-fewer, unpadded-fewer}
-use Rattle.delete_impact.proofs.Spared.{both_false, first_false, second_false, has_doomed-append, Spared}
+use Rattle.delete_impact.proofs.Spared.{has_doomed-append, Spared}
 
 module _ (condition : Option Expr) where
   -- each row that is left has a list without a doomed row, a row with such a list is left, and each list has an entry for each place
@@ -212,7 +214,7 @@ module _ (condition : Option Expr) where
             } in (
               a.0 ++ b.0,
               in-inner us xs t earlier a.0 b.0 a.1 b.1,
-              has_doomed-append condition ps qs a.0 b.0 (k.long m.left a.0 a.1) ∙ both_false _ _ a.2 b.2,
+              has_doomed-append condition ps qs a.0 b.0 (k.long m.left a.0 a.1) ∙ or_from _ _ a.2 b.2,
             )
 
         back-join : (rows : Bag) (t : Row) (w : Witness) → joined_rows Inner test left_width right_width vs ys ≡ Good rows → IsIn w (inner_lists us xs t) →
@@ -223,8 +225,8 @@ module _ (condition : Option Expr) where
             in-joined_rows test vs ys t Inner left_width right_width rows e (pair (record {
               left = p.left;
               right = p.right;
-              in_left = k.back p.left p.left_list p.of_left (first_false _ _ parts);
-              in_right = j.back p.right p.right_list p.of_right (second_false _ _ parts);
+              in_left = k.back p.left p.left_list p.of_left (left-false _ _ parts);
+              in_right = j.back p.right p.right_list p.of_right (right-false _ _ parts);
               makes = p.makes;
               met = p.met;
             }))
@@ -266,22 +268,22 @@ module _ (condition : Option Expr) where
         | inl l ↦ let a = k.there t l in (
           a.0 ++ right_blank,
           in-append_left (a.0 ++ right_blank) (map (λ w. w ++ right_blank) (ll t)) (map (λ w. left_blank ++ w) (rl t)) (in-map (λ w. w ++ right_blank) a.0 (ll t) a.1),
-          has_doomed-append condition ps qs a.0 right_blank (k.long t a.0 a.1) ∙ both_false _ _ a.2 right_clean,
+          has_doomed-append condition ps qs a.0 right_blank (k.long t a.0 a.1) ∙ or_from _ _ a.2 right_clean,
         )
         | inr m ↦ let b = j.there t m in (
           left_blank ++ b.0,
           in-append_right (left_blank ++ b.0) (map (λ w. w ++ right_blank) (ll t)) (map (λ w. left_blank ++ w) (rl t)) (in-map (λ w. left_blank ++ w) b.0 (rl t) b.1),
-          has_doomed-append condition ps qs left_blank b.0 left_long ∙ both_false _ _ left_clean b.2,
+          has_doomed-append condition ps qs left_blank b.0 left_long ∙ or_from _ _ left_clean b.2,
         )
       ]
 
       back-union : (t : Row) (w : Witness) → IsIn w (united_lists t) → has_doomed condition (ps ++ qs) w ≡ false → IsIn t (union_of all vs ys)
       back-union t w h clean = in-union all t vs ys (elim (from-append w (map (λ w. w ++ right_blank) (ll t)) (map (λ w. left_blank ++ w) (rl t)) h) [
         | inl l ↦ let v = from-map (λ w. w ++ right_blank) w (ll t) l in
-            inl (k.back t v.0 v.1 (first_false _ _
+            inl (k.back t v.0 v.1 (left-false _ _
             (sym (has_doomed-append condition ps qs v.0 right_blank (k.long t v.0 v.1)) ∙ ap (has_doomed condition (ps ++ qs)) v.2 ∙ clean)))
         | inr m ↦ let v = from-map (λ w. left_blank ++ w) w (rl t) m in
-            inr (j.back t v.0 v.1 (second_false _ _
+            inr (j.back t v.0 v.1 (right-false _ _
             (sym (has_doomed-append condition ps qs left_blank v.0 left_long) ∙ ap (has_doomed condition (ps ++ qs)) v.2 ∙ clean)))
       ])
 

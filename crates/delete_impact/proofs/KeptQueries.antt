@@ -1,12 +1,11 @@
 -- What a monotone query keeps after a deletion: the rows that have a witness list without a doomed row.
-use Rattle.std.proofs.Common.{◌≡◌, ℕ, inl, inr, Bool, true, false, cond, not, ◌==◌, ◌&&◌, List, [], ◌∷◌, ◌++◌, filter, length, All, Option, refl, sym, ap, ◌∙◌, subst, subst₂, append-nil}
+use Rattle.std.proofs.Common.{◌≡◌, ℕ, inl, inr, Bool, true, false, cond, not, ◌==◌, ◌&&◌, List, [], ◌∷◌, ◌++◌, filter, length, Option, refl, sym, ap, ◌∙◌, subst, subst₂, append-nil}
 use mathlib.Core.Bool.{true≢false}
 use Rattle.std.proofs.lemmas.List.FromFn.{fill_by_all}
 use Rattle.perm_values.specs.Rows.{picked, value_at, bag_fits, row_fits}
 use Rattle.perm_values.specs.declared.kind.Kind.{Kind}
 use Rattle.perm_values.specs.declared.value.Value.TheVariants.{Null}
 use Rattle.bag_algebra.proofs.Members.{IsIn, from-filter, in-filter}
-use Rattle.bag_algebra.proofs.MembersByIndex.{contains-from_in}
 use Rattle.bag_algebra.proofs.Outcomes.{same_good}
 use Rattle.bag_algebra.proofs.Truths.{left-true, right-true, or_false}
 use Rattle.bag_algebra.specs.Bags.{Row, Bag}
@@ -203,7 +202,3 @@ pub kept-rows : (condition : Option Expr) (places : List Bool) (lists : Row → 
 kept-rows condition places lists _ _ us e (kept_good {us = all} {vs} s k) =
     record { rows = vs; good = refl; fewer = λ t h. subst (IsIn t) (same_good _ _ e) (s.within t h); sparing = k }
 kept-rows condition places lists _ _ us e (kept_bad f left) = absurd (cc e)
-
--- what holds of each by index holds of each member
-pub all-at : {X : Type 0} (P : X → Type 0) (xs : List X) (x : X) → All P xs → IsIn x xs → P x
-all-at P xs x all h = let found = contains-from_in x xs h in subst P found.2 (all found.0 x found.1)

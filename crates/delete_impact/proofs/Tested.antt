@@ -10,10 +10,6 @@ use Rattle.bag_algebra.specs.Means.{holds_of, kept}
 use Rattle.bag_algebra.specs.Outcome.{Outcome, Good, Bad, mapped, both, gather}
 use Rattle.query_laws.proofs.Filtered.{put_before}
 
-pub holds-boolean : (b : Bool) → holds_of (Boolean b) ≡ b
-holds-boolean true = refl
-holds-boolean false = refl
-
 pub is_false : (b : Bool) → has_truth False (Boolean b) ≡ not b
 is_false true = refl
 is_false false = refl

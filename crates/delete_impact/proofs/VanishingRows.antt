@@ -2,7 +2,7 @@
 use Rattle.std.proofs.Common.{◌≡◌, ◌↔◌, ℕ, Bool, true, false, List, [], All, Option, IsTrue, refl, sym, ◌∙◌, subst}
 use mathlib.Core.Bool.{true≢false}
 use Rattle.bag_algebra.proofs.Members.{IsIn, in-member, member-in}
-use Rattle.bag_algebra.proofs.MembersByIndex.{all-from_in}
+use Rattle.bag_algebra.proofs.MembersByIndex.{all-from_in, all-at}
 use Rattle.bag_algebra.proofs.Outcomes.{same_good}
 use Rattle.bag_algebra.specs.Bags.{Row, Bag, member}
 use Rattle.bag_algebra.specs.Fits.{TablesFit}
@@ -14,7 +14,7 @@ use Rattle.bag_algebra.specs.declared.query.Query.{Query}
 use Rattle.query_facts.specs.monotone.Monotone.{is_monotone}
 use Rattle.delete_impact.specs.vanishing.Doomed.{after_deletion, places_over, has_doomed}
 use Rattle.delete_impact.specs.vanishing.Vanishing.{Vanishes}
-use Rattle.delete_impact.proofs.KeptQueries.{KeptRows, kept-query, kept-rows, all-at}
+use Rattle.delete_impact.proofs.KeptQueries.{KeptRows, kept-query, kept-rows}
 
 module _ (q : Query) (id : ℕ) (condition : Option Expr) (db : Database) where
   pub kept-of : (env : List Row) (us : Bag) → is_monotone q ≡ true → TablesFit db q → meaning q db env ≡ Good us →

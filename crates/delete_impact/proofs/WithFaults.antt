@@ -3,6 +3,7 @@ use Rattle.std.proofs.Common.{◌≡◌, ℕ, Bool, true, false, cond, List, [],
 use Rattle.perm_values.specs.declared.kind.Kind.{Kind}
 use Rattle.perm_values.specs.declared.kind.Kind.TheVariants.{Boolean}
 use Rattle.perm_values.specs.declared.value.Value.{Value}
+use Rattle.perm_values.proofs.Steps.{by}
 use Rattle.bag_algebra.proofs.NeverBad.{good-value}
 use Rattle.bag_algebra.proofs.Truths.{both-true}
 use Rattle.bag_algebra.specs.Bags.{Bag, union_of}
@@ -22,7 +23,6 @@ use Rattle.bag_algebra.specs.declared.expr.Expr.{Expr}
 use Rattle.bag_algebra.specs.declared.query.Query.{Query}
 use Rattle.bag_algebra.specs.declared.query.Query.TheVariants.{Union}
 use Rattle.delete_impact.specs.vanishing.Doomed.{doomed_on}
-use Rattle.delete_impact.proofs.reduced.BehindRows.{by}
 use Rattle.delete_impact.specs.Answering.{looked_through, with_faults}
 use Rattle.delete_impact.proofs.Conditions.{emptied}
 use Rattle.delete_impact.proofs.LookedThrough.{meaning-looked_through, kinds-looked_through, formed-looked_through}

@@ -1,6 +1,6 @@
 -- The query that answers, of the query that is asked about: its rows that the query over what is left of the table doesn't have. They
 -- are looked for among its rows over the rows that go, where it has no others that go.
-use Rattle.std.specs.Prelude.{ℕ, Bool, true, cond, ◌&&◌, List, [], map, Option, Some, None}
+use Rattle.std.specs.Prelude.{ℕ, Bool, true, cond, ◌&&◌, List, [], map}
 use Rattle.perm_values.specs.declared.kind.Kind.{Kind}
 use Rattle.perm_values.specs.declared.kind.Kind.TheVariants as kind
 use Rattle.perm_values.specs.declared.value.Value.TheVariants.{Boolean}
@@ -11,16 +11,10 @@ use Rattle.bag_algebra.specs.declared.expr.Expr.{Expr}
 use Rattle.bag_algebra.specs.declared.expr.Expr.TheVariants.{Lit}
 use Rattle.bag_algebra.specs.declared.query.Query.{Query, end_of-Sublink}
 use Rattle.bag_algebra.specs.declared.query.Query.TheVariants.{Table, Union}
-use Rattle.contribution.specs.Conjunctions.{always}
 use Rattle.contribution.specs.NullItems.{null_item}
 use Rattle.delete_impact.specs.reduced.Hiding.{hides_none}
 use Rattle.delete_impact.specs.reduced.Reduced.{behind, missing, missing_part}
 use Rattle.delete_impact.specs.reduced.Splitting.{splits}
-
--- every row is doomed where there is no condition
-abbrev pub condition_or_true : Option Expr → Expr
-condition_or_true None = always
-condition_or_true (Some condition) = condition
 
 -- FALSE
 abbrev pub never : Expr

@@ -3,10 +3,11 @@ ghost use Rattle.std.specs.Prelude.{◌≡◌, [], true, IfOk, IsTrue, option_co
 ghost use Rattle.bag_algebra.specs.Kinds.{kinds_of};
 ghost use Rattle.bag_algebra.specs.WellFormed.{WellFormed};
 ghost use Rattle.bag_algebra.specs.declared.query.Query.TheVariants.{Union};
-ghost use Rattle.delete_impact.specs.Answering.{adds_none, condition_or_true, looked_through, lost, never, no_row_of, vanishing, with_faults};
+ghost use Rattle.delete_impact.specs.Answering.{adds_none, looked_through, lost, never, no_row_of, vanishing, with_faults};
 ghost use Rattle.delete_impact.specs.Impact.{IsImpact};
 ghost use Rattle.query_facts.specs.monotone.Conditions.{ConditionFits};
 ghost use Rattle.query_facts.specs.monotone.Monotone.{is_monotone};
+ghost use Rattle.contribution.specs.Conjunctions.{condition_or_true};
 ghost use Rattle.delete_impact.specs.reduced.Reduced.{behind, missing};
 
 use crate::reduced::{behind, first_kinds, hides_none, missing, missing_part, splits};

@@ -1,15 +1,11 @@
 -- A text that grows piece by piece: pieces laid one behind another, and one more item of a list.
-use Rattle.std.proofs.Common.{◌≡◌, ◌∙◌, ℕ, zero, suc, ◌+◌, ◌<◌, ◌≤◌, List, [], ◌∷◌, ◌++◌, map, length, get_or, take, drop, Result, Ok, Err, OnOk, sym, ap, arith, add-one, append_assoc, append-nil}
+use Rattle.std.proofs.Common.{◌≡◌, ◌∙◌, ℕ, suc, ◌+◌, ◌<◌, ◌≤◌, List, [], ◌∷◌, ◌++◌, map, length, get_or, take, drop, sym, ap, arith, add-one, append_assoc, append-nil}
 use Rattle.std.specs.List.{flat_map, range_with_len}
 use Rattle.std.proofs.lemmas.Grind.{flat_map-append}
 use Rattle.std.proofs.lemmas.List.{at_drop_all, at_drop_more, map_more}
+use Rattle.perm_values.proofs.Ranges.{range-next}
 use Rattle.bag_algebra.proofs.Rest.{from_here}
 use Rattle.expression_texts.specs.Words.{separated, separator}
-
--- what holds where there was enough memory
-pub when-ok : {X E P Q : Type 0} (result : Result X E) → OnOk result P → (P → Q) → OnOk result Q
-when-ok (Ok x) holds f = f holds
-when-ok (Err e) holds f = tt
 
 -- ---- pieces
 
@@ -60,16 +56,11 @@ mapped_next g xs i x now after within is before joined =
 
 -- ---- ranges
 
-range_more : (a n : ℕ) → range_with_len a (suc n) ≡ range_with_len a n ++ (a + n) ∷ []
-range_more a zero = ap (λ m. m ∷ []) (omega arith)
-range_more a (suc n) = let next : a + 1 + n ≡ a + suc n = omega arith in
-    ap (λ ns. a ∷ ns) (range_more (a + 1) n ∙ ap (λ m. range_with_len (a + 1) n ++ m ∷ []) next)
-
 one_more : {Y : Type 0} (f : ℕ → List Y) (n : ℕ) → flat_map f (range_with_len 0 (n + 1)) ≡ flat_map f (range_with_len 0 n) ++ f n
 one_more f n =
     let one : n + 1 ≡ suc n = omega arith in
     let last : 0 + n ≡ n = omega arith in
-    ap (λ m. flat_map f (range_with_len 0 m)) one ∙ ap (flat_map f) (range_more 0 n) ∙ flat_map-append f (range_with_len 0 n) ((0 + n) ∷ [])
+    ap (λ m. flat_map f (range_with_len 0 m)) one ∙ ap (flat_map f) (range-next 0 n) ∙ flat_map-append f (range_with_len 0 n) ((0 + n) ∷ [])
     ∙ ap (λ rest. flat_map f (range_with_len 0 n) ++ rest) (append-nil (f (0 + n)) ∙ ap f last)
 
 -- one more item of a range

@@ -119,7 +119,8 @@ fn push_parts(
     subs: &[Bytes],
     draft: &mut Draft,
 ) -> Result<(), NoMemory>
-    ensures { OnOk result (draft.new ≡ draft.old ++ separated (first_between op (length parts.now)) (later_between op) 0
+    ensures { OnOk result (draft.new
+        ≡ draft.old ++ separated (first_between op (length parts.now)) (later_between op) 0
         (texts_of prefix.now subs.now parts.now)) }
 {
     let second = first_between(op, parts.len());
@@ -154,7 +155,8 @@ fn push_steps_of(
     subs: &[Bytes],
     draft: &mut Draft,
 ) -> Result<(), NoMemory>
-    ensures { OnOk result (draft.new ≡ draft.old ++ steps_text additive (steps_of prefix.now subs.now steps.now)) }
+    ensures { OnOk result (draft.new
+        ≡ draft.old ++ steps_text additive (steps_of prefix.now subs.now steps.now)) }
 {
     for step in steps {
         draft.push(chain_word(additive, step.op))?;

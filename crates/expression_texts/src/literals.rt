@@ -33,7 +33,8 @@ impl Draft {
     }
 
     fn push_signed(&mut self, number: i64) -> Result<(), NoMemory>
-        ensures { OnOk result (self.new ≡ self.old ++ signed_text (is_negative number) (unsigned_abs number)) }
+        ensures { OnOk result (self.new
+            ≡ self.old ++ signed_text (is_negative number) (unsigned_abs number)) }
     {
         if number.is_negative() {
             self.push_negative(number.unsigned_abs())

@@ -1,13 +1,14 @@
 -- What stands over literals alone has one value, and one kind.
 use Rattle.std.proofs.Common.{◌≡◌, ◌≤◌, Bool, true, false, cond, ◌&&◌, List, [], ◌∷◌, Some, None, refl, sym, ap, ◌∙◌, subst, true≢false, arith}
-use Rattle.null_logic.specs.Comparison.{is_null}
+use Rattle.std.proofs.lemmas.Option.{same_Some}
 use Rattle.null_logic.specs.declared.operator.Operator.{Operator}
 use Rattle.null_logic.specs.declared.operator.Operator.TheVariants as op
-use Rattle.perm_values.specs.Values.{fits, same_value}
+use Rattle.perm_values.specs.Values.{fits, same_value, is_null}
 use Rattle.perm_values.specs.declared.kind.Kind.{Kind}
 use Rattle.perm_values.specs.declared.kind.Kind.TheVariants as kind
 use Rattle.perm_values.specs.declared.value.Value.{Value}
 use Rattle.perm_values.specs.declared.value.Value.TheVariants.{Boolean}
+use Rattle.perm_values.proofs.Steps.{none_is_some}
 use Rattle.bag_algebra.proofs.Forms.{alike-kept, op_form-kept}
 use Rattle.bag_algebra.proofs.Truths.{left-true, right-true}
 use Rattle.bag_algebra.specs.Bags.{Row}
@@ -22,16 +23,10 @@ use Rattle.contribution.proofs.WhereGood.{WhereGood}
 use Rattle.query_laws.specs.SameExpressions.{SameExpr}
 use Rattle.folded_literals.specs.Constants.{is_literal, literal_kind, kind_given, parts_literal, steps_literal, arms_literal, kind_of_first, constant_kind}
 
-none_there : {A : Type 0} (k : Kind) → None ≡ Some k → A
-none_there k e = cc
-
-the_one : (given k : Kind) → Some given ≡ Some k → given ≡ k
-the_one given k e = cc
-
 -- a kind that is there where a test holds
 where_holds : (b : Bool) (given k : Kind) → cond b (Some given) None ≡ Some k → (b ≡ true) × (given ≡ k)
-where_holds true given k e = (refl, the_one given k e)
-where_holds false given k e = none_there k e
+where_holds true given k e = (refl, same_Some given k e)
+where_holds false given k e = none_is_some e
 
 -- ---- literals
 
@@ -122,7 +117,7 @@ first-one (more_of-Expr part parts) h n k f = literal-one part (left-true (is_li
 
 module _ (u : Row) (env : List Row) (subs : List Value) where
   constant-value : (e : Expr) (given : Kind) → constant_kind e ≡ Some given → value e u env subs ≡ value e [] [] []
-  constant-value (Col level place) given h = none_there given h
+  constant-value (Col level place) given h = none_is_some h
   constant-value (Lit v kind) given h = refl
   constant-value (OpOf o _ parts) given h =
       ap (λ vs. and_then vs (operate o)) (parts-value u env subs parts (where_holds (parts_literal parts) (kind_given o (kind_of_first parts)) given h).0)
@@ -134,7 +129,7 @@ module _ (u : Row) (env : List Row) (subs : List Value) where
       let all = (where_holds (arms_literal arms && is_literal otherwise) (literal_kind otherwise) given h).0 in
       arms-value u env subs arms (left-true (arms_literal arms) (is_literal otherwise) all) _ _
       (literal-value otherwise (right-true (arms_literal arms) (is_literal otherwise) all) u env subs)
-  constant-value (Sub number) given h = none_there given h
+  constant-value (Sub number) given h = none_is_some h
   constant-value (IsNullOf part) given h =
       ap (mapped (λ v. Boolean (is_null v))) (literal-value part (where_holds (is_literal part) kind.Boolean given h).0 u env subs)
   constant-value (IsTruthOf truth part) given h =
@@ -162,8 +157,8 @@ op-one op.NullIf parts h k f = first-one parts h (subst (λ n. 1 ≤ n) (sym f.n
 
 module _ (scopes : List (List Kind)) (subs : List Kind) where
   constant-kind : (e : Expr) (given : Kind) → constant_kind e ≡ Some given → (k : Kind) → HasKind scopes subs e k → HasKind [] [] e k × (k ≡ given)
-  constant-kind (Col level place) given h k f = none_there given h
-  constant-kind (Lit v kind) given h k f = none_there given h
+  constant-kind (Col level place) given h k f = none_is_some h
+  constant-kind (Lit v kind) given h k f = none_is_some h
   constant-kind (OpOf o _ parts) given h k f =
       let w = where_holds (parts_literal parts) (kind_given o (kind_of_first parts)) given h in
       let g : op_form o (number_of_parts parts) (PartsHave [] [] parts) k = op_form-kept (λ l p. parts-formed scopes subs parts w.0 l p) o (number_of_parts parts) k f in
@@ -190,7 +185,7 @@ module _ (scopes : List (List Kind)) (subs : List Kind) where
         },
         literal-one otherwise last k g ∙ w.1,
       )
-  constant-kind (Sub number) given h k f = none_there given h
+  constant-kind (Sub number) given h k f = none_is_some h
   constant-kind (IsNullOf part) given h k f =
       let w = where_holds (is_literal part) kind.Boolean given h in
       (record { parts = alike-kept (λ l p. literal-formed scopes subs part w.0 l p) f.parts; gives = f.gives }, f.gives ∙ w.1)

@@ -1,16 +1,14 @@
 //! An expression with the values of what stands over literals alone in its place.
 ghost use Rattle.std.specs.Prelude.{◌≡◌, Bool, true, false, [], IfOk, IfNone, IfSome};
-ghost use Rattle.bag_algebra.specs.Expressions.{value};
 ghost use Rattle.query_laws.specs.SameExpressions.{SameExpr};
-ghost use Rattle.row_values.specs.Answers.{Gives};
 ghost use Rattle.folded_literals.specs.Rebuilt.{SameParts, SameSteps, SameArms};
 ghost use Rattle.folded_literals.specs.Settled.{is_foldable, is_settled};
 ghost use Rattle.folded_literals.specs.built.Settled.{SettledBy, all_settled, all_steps_settled, all_arms_settled};
 
 use crate::constants::constant_kind;
-use bag_algebra::{Arm, ChainStep, Env, Expr};
-use perm_values::{Boxed, Copyable, List, NoMemory, Row, Value, both};
-use row_values::{ExecError, eval};
+use bag_algebra::{Arm, ChainStep, Expr};
+use perm_values::{Boxed, Copyable, List, NoMemory, both};
+use row_values::{ExecError, value_alone};
 use std::alloc::Global;
 
 /// The expression with a literal in the place of each part over literals alone that meets no fault. It has the expression's
@@ -132,20 +130,11 @@ fn literal(alloc: Global, expr: &Expr) -> Result<Option<Expr>, NoMemory>
     ensures none { IfOk result (λ found. IfNone found (is_foldable expr.now ≡ false)) }
 {
     match constant_kind(expr) {
-        Some(kind) => match value(alloc, expr) {
+        Some(kind) => match value_alone(alloc, expr) {
             Ok(value) => Ok(Some(Expr::Lit { value, kind })),
             Err(ExecError::Fault(_)) => Ok(None),
             Err(ExecError::NoMemory) => Err(NoMemory),
         },
         None => Ok(None),
     }
-}
-
-/// The value of an expression that sees no column.
-fn value(alloc: Global, expr: &Expr) -> Result<Value, ExecError>
-    ensures { Gives (value expr.now [] [] []) result }
-{
-    let nothing = Row::new(alloc);
-    let env = Env::new(alloc);
-    eval(alloc, expr, &nothing, &[], &env)
 }

@@ -1,10 +1,11 @@
 -- The dependent join of rewritings, with its columns before those of provenance, is a rewriting of the dependent join.
 use Rattle.std.proofs.Common.{◌≡◌, ◌↔◌, ◌⊎◌, inl, inr, ℕ, ◌+◌, Bool, true, false, cond, List, [], ◌∷◌, ◌++◌, map, length, Contains, length-append, refl, sym, ap, ◌∙◌, subst, true≢false, arith}
 use Rattle.std.proofs.lemmas.Bool.{and_from}
-use Rattle.perm_values.specs.Rows.{picked}
+use Rattle.perm_values.specs.Rows.{picked, PlacesWithin}
 use Rattle.perm_values.specs.declared.kind.Kind.{Kind}
 use Rattle.perm_values.specs.declared.kind.Kind.TheVariants.{Text}
 use Rattle.perm_values.specs.declared.value.Value.TheVariants.{Null}
+use Rattle.perm_values.proofs.Steps.{by}
 use Rattle.bag_algebra.proofs.Members.{IsIn, in-map, from-map, in-member}
 use Rattle.bag_algebra.proofs.TablesRead.{reads_among-each, reads_among-itself}
 use Rattle.bag_algebra.proofs.Truths.{both-true}
@@ -21,7 +22,7 @@ use Rattle.bag_algebra.specs.Means.{Means, Witness, flat, all_empty, good_rows, 
 use Rattle.bag_algebra.specs.Outcome.{Faults, Outcome, Good, Bad, and_then, mapped, gather}
 use Rattle.bag_algebra.specs.Rewriting.{IsRewrite, SameSet, is_plain}
 use Rattle.bag_algebra.specs.TablesRead.{EachTable, tables_read}
-use Rattle.bag_algebra.specs.WellFormed.{WellFormed, ApplyForm, PlacesIn}
+use Rattle.bag_algebra.specs.WellFormed.{WellFormed, ApplyForm}
 use Rattle.bag_algebra.specs.declared.query.JoinKind.{JoinKind}
 use Rattle.bag_algebra.specs.declared.query.Query.{Query}
 use Rattle.bag_algebra.specs.declared.query.Query.TheVariants.{Apply, Prov}
@@ -35,6 +36,7 @@ use Rattle.contribution.proofs.NodeQueries.{plain-projected}
 use Rattle.contribution.specs.Fitting.{Fitting}
 use Rattle.query_laws.proofs.AnswerRows.{answer-in, answer-from}
 use Rattle.query_laws.proofs.ApplyLists.{apply-lists}
+use Rattle.query_laws.proofs.Joined.{length-nulls}
 use Rattle.query_laws.proofs.Outcomes.{over-gather, good-mapped, good-good}
 use Rattle.query_laws.specs.ListsOfNodes.{ApplyList, of_right_row, of_no_right_row}
 use Rattle.query_laws.specs.SublinkLists.{InAnswer}
@@ -43,9 +45,9 @@ use Rattle.rewrite_core.proofs.Faults.{SameFaults, gather-bad_alike, mapped-same
 use Rattle.rewrite_core.proofs.FlatRows.{Flattened, flattened, row-begins, stands_beside}
 use Rattle.rewrite_core.proofs.JoinedOutcomes.{Related, rewritten-from_related}
 use Rattle.rewrite_core.proofs.KeptRewriting.{rewriting-related}
-use Rattle.rewrite_core.proofs.KeptRows.{row-width, list-width, length-nulls, nulls-of_rewriting, flat-append}
+use Rattle.rewrite_core.proofs.KeptRows.{row-width, list-width, nulls-of_rewriting, flat-append}
 use Rattle.rewrite_core.specs.rewritings.Rewritten.{Beside}
-use Rattle.rewrite_sublink.proofs.LongerRows.{by, names-rewriting}
+use Rattle.rewrite_sublink.proofs.LongerRows.{names-rewriting}
 use Rattle.rewrite_sublink.proofs.NodeRows.{Reaching, reaching-over}
 use Rattle.rewrite_sublink.proofs.SublinkRows.{good-related}
 use Rattle.lateral_rewrite.proofs.BesideRows.{good-bag}
@@ -140,7 +142,7 @@ module _ (kind : JoinKind) (left left_rewriting right right_rewriting : Query) (
         let within = regrouped-within (width_of left) (width_of left_rewriting) (width_of right) (width_of right_rewriting)
         (omega (arith, ap length left_kinds, length-append (kinds_of left) (place_kinds (shape left))))
         (omega (arith, ap length right_kinds, length-append (kinds_of right) (place_kinds (shape right)))) in
-        formed-columns pairs order (subst (λ n. PlacesIn n order) (sym (length-append (kinds_of left_rewriting) (kinds_of right_rewriting))) within) outer (record {
+        formed-columns pairs order (subst (λ n. PlacesWithin n order) (sym (length-append (kinds_of left_rewriting) (kinds_of right_rewriting))) within) outer (record {
           left = left_given.formed outer form.left;
           right = well_formed-longer right_rewriting (kinds_of left ∷ outer) (kinds_of left_rewriting ∷ outer) (names-rewriting left left_rewriting outer left_given form.left)
               (right_given.formed (kinds_of left ∷ outer) form.right);

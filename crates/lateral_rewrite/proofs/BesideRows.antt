@@ -5,6 +5,7 @@ use Rattle.std.proofs.lemmas.Bool.{and_from}
 use Rattle.perm_values.specs.declared.kind.Kind.{Kind}
 use Rattle.bag_algebra.proofs.BagLaws.{member-same_bag}
 use Rattle.bag_algebra.proofs.Members.{IsIn, in-map, from-map, in-member, member-in}
+use Rattle.bag_algebra.proofs.Outcomes.{same_rows-itself}
 use Rattle.bag_algebra.specs.Bags.{Row, Bag}
 use Rattle.bag_algebra.specs.built.Openings.{rows-with_lists}
 use Rattle.bag_algebra.specs.Fits.{TablesFit}
@@ -22,7 +23,6 @@ use Rattle.contribution.proofs.JoinMembers.{in-gather}
 use Rattle.contribution.specs.Fitting.{Fitting}
 use Rattle.query_laws.proofs.Outcomes.{over-gather, mapped-good, good-good}
 use Rattle.query_laws.specs.Faults.{IsGood}
-use Rattle.rewrite_core.proofs.Itself.{same_rows-itself}
 use Rattle.rewrite_sublink.proofs.Contributing.{padded_rows}
 use Rattle.lateral_rewrite.specs.Dependent.{beside}
 

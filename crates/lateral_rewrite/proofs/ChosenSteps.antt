@@ -10,6 +10,7 @@ use Rattle.perm_values.specs.Rows.{picked}
 use Rattle.perm_values.specs.declared.kind.Kind.{Kind}
 use Rattle.perm_values.specs.declared.kind.Kind.TheVariants as kind
 use Rattle.perm_values.specs.declared.value.Value.{Value}
+use Rattle.perm_values.proofs.Steps.{by}
 use Rattle.bag_algebra.proofs.Members.{IsIn}
 use Rattle.bag_algebra.proofs.TablesRead.{reads_among-each}
 use Rattle.bag_algebra.specs.Bags.{Row, Bag}
@@ -41,7 +42,7 @@ use Rattle.query_laws.proofs.SameExpressions.{tested-formed}
 use Rattle.query_laws.specs.Standing.{SubStands}
 use Rattle.rewrite_core.proofs.Places.{within-range}
 use Rattle.rewrite_core.specs.rewritings.KeptColumns.{columns_kept, kept_places}
-use Rattle.rewrite_sublink.proofs.LongerRows.{by, names-begin, subs-named}
+use Rattle.rewrite_sublink.proofs.LongerRows.{names-begin, subs-named}
 use Rattle.rewrite_sublink.proofs.MatchingRows.{gather-kept}
 use Rattle.rewrite_sublink.proofs.ProjectRows.{beside_row-kinds, beside_row-value, columns-formed}
 use Rattle.rewrite_sublink.proofs.Steps.{SubsFitting, HasValue, Step}

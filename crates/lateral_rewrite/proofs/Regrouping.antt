@@ -3,7 +3,7 @@ use Rattle.std.proofs.Common.{◌≡◌, ℕ, ◌+◌, ◌-◌, ◌≤◌, ◌<�
 use Rattle.std.proofs.lemmas.List.{map-append}
 use Rattle.std.proofs.lemmas.List.Elements.{All-append}
 use Rattle.std.specs.List.{range_with_len}
-use Rattle.bag_algebra.specs.WellFormed.{PlacesIn}
+use Rattle.perm_values.specs.Rows.{PlacesWithin}
 use Rattle.rewrite_core.proofs.Places.{at-between, within-range}
 use Rattle.lateral_rewrite.specs.Applied.{regrouped}
 
@@ -43,7 +43,7 @@ module _ {X : Type 0} (d : X) (left added right more : List X) (a b c e : ℕ) (
       ∙ (λ i. (both-of (range_with_len 0 a) (range_with_len b c) ∙ (λ j. left_columns j ++ right_columns j)) i
       ++ (both-of (range_with_len a (b - a)) (range_with_len (b + c) (e - c)) ∙ (λ j. added_columns j ++ more_columns j)) i)
 
-pub regrouped-within : (a b c e : ℕ) → a ≤ b → c ≤ e → PlacesIn (b + e) (regrouped a b c e)
+pub regrouped-within : (a b c e : ℕ) → a ≤ b → c ≤ e → PlacesWithin (b + e) (regrouped a b c e)
 regrouped-within a b c e left_fits right_fits =
     All-append (λ place. place < (b + e)) (range_with_len 0 a ++ range_with_len b c) (range_with_len a (b - a) ++ range_with_len (b + c) (e - c))
     (All-append (λ place. place < (b + e)) (range_with_len 0 a) (range_with_len b c) (within-range (b + e) 0 a (omega (arith, left_fits)))

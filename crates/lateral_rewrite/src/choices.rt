@@ -1,9 +1,8 @@
 //! What a sublink's rows are chosen by, and how they stand beside a row.
 ghost use Rattle.std.specs.Prelude.{◌≡◌, Some};
-ghost use Rattle.bag_algebra.specs.declared.query.JoinKind.TheVariants.{Left};
 ghost use Rattle.lateral_rewrite.specs.Dependent.{choice_of};
 
-use bag_algebra::{JoinKind, SubKind};
+use bag_algebra::SubKind;
 use null_logic::{Compare, Truth};
 
 /// With this truth a sublink lets those rows alone contribute whose comparison has it too.
@@ -29,13 +28,6 @@ fn chooses(truth: Truth, compare: Compare) -> Option<Choice>
     ensures { result ≡ Some (record { truth = truth; compare = compare }) }
 {
     Some(Choice { truth, compare })
-}
-
-/// A row under which there is no row stands beside NULLs.
-pub(crate) fn outwards() -> JoinKind
-    ensures { result ≡ Left }
-{
-    JoinKind::Left
 }
 
 /// Where a row's value and left operand stand, seen from the rows of a sublink's query: in the nearest outer row.

@@ -4,9 +4,9 @@ ghost use Rattle.lateral_rewrite.specs.Dependent.{all_beside, all_contributed, c
 
 use crate::choices::{Choice, choice_of};
 use crate::sides::{beside, chosen_provenance, provenance, valued};
-use bag_algebra::{Expr, Query, Sublink};
+use bag_algebra::{Expr, Query, Sublink, exact_width};
 use perm_values::NoMemory;
-use rewrite_core::{columns_kept, exact_width};
+use rewrite_core::columns_kept;
 use std::alloc::Global;
 
 /// The rows, and for each sublink in turn its contributions.

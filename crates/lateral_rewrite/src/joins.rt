@@ -6,10 +6,10 @@ ghost use Rattle.bag_algebra.specs.declared.query.Query.TheVariants.{Apply};
 ghost use Rattle.rewrite_core.specs.rewritings.OpenSublinks.{NoOpenSublink};
 ghost use Rattle.lateral_rewrite.specs.Applied.{regrouped};
 
-use bag_algebra::{JoinKind, Query};
+use bag_algebra::{JoinKind, Query, exact_width};
 use contribution::regroup;
 use perm_values::{List, NoMemory};
-use rewrite_core::{exact_width, sum};
+use rewrite_core::sum;
 use std::alloc::Global;
 
 /// A rewriting of a dependent join: the dependent join of the rewritings, and then its columns before those of provenance, the

@@ -10,9 +10,8 @@ ghost use Rattle.rewrite_sublink.specs.SubRewritings.{SubsRewritten};
 ghost use Rattle.lateral_rewrite.specs.Dependent.{all_contributed};
 
 use crate::contributions::with_contributions;
-use bag_algebra::{Expr, Item, Query, Sublink};
+use bag_algebra::{Expr, Item, Query, Sublink, exact_width};
 use perm_values::{List, NoMemory};
-use rewrite_core::exact_width;
 use rewrite_sublink::{answer_columns, own_items, own_rows};
 use std::alloc::Global;
 

@@ -5,12 +5,12 @@ ghost use Rattle.bag_algebra.specs.declared.query.Query.TheVariants.{Project};
 ghost use Rattle.rewrite_sublink.specs.Candidates.{beside_row};
 ghost use Rattle.lateral_rewrite.specs.Dependent.{beside, chosen_provenance, chosen_rows, provenance_of, value_items, valued};
 
-use crate::choices::{Choice, outwards};
+use crate::choices::Choice;
 use crate::chosen::contributes;
-use bag_algebra::{Expr, Item, Query, Sublink};
-use contribution::{kind_or_text, kinds, selection};
+use bag_algebra::{Expr, Item, Query, Sublink, exact_width};
+use contribution::{kind_or_text, kinds, outwards, selection};
 use perm_values::{Copyable, Kind, List, NoMemory, both};
-use rewrite_core::{columns_kept, exact_width};
+use rewrite_core::columns_kept;
 use rewrite_sublink::beside_row;
 use std::alloc::Global;
 

@@ -1,9 +1,8 @@
 -- What a regular query that breaks nothing is made to can run: the laws of names are used here alone.
-use Rattle.std.specs.Prelude.{◌≡◌, suc, cond, List, [], ◌∷◌, ◌++◌, length, map, Option, Some}
+use Rattle.std.specs.Prelude.{◌≡◌, List, [], ◌++◌, length, Option, Some}
 use Rattle.std.specs.Option.{option_map_or}
 use Rattle.std.proofs.Common.{refl, ap, sym, ◌∙◌}
-use Rattle.perm_values.specs.declared.kind.Kind.{Kind}
-use Rattle.perm_values.specs.declared.kind.Kind.TheVariants as kind
+use Rattle.perm_values.proofs.Lists.{front-none, back-none}
 use Rattle.perm_catalog.specs.Contents.{Contents}
 use Rattle.perm_catalog.specs.Sound.{IsSound}
 use Rattle.sql_tree.specs.Regular.{RegularQuery, RegularStatement, RegularStatementBody}
@@ -11,41 +10,25 @@ use Rattle.sql_tree.specs.declared.query.QueryTree.{QueryTree}
 use Rattle.sql_tree.specs.declared.statement.Statement.{Statement}
 use Rattle.sql_tree.specs.declared.statement.StatementBody.{StatementBody}
 use Rattle.sql_tree.specs.declared.statement.StatementBody.TheVariants as st
-use Rattle.name_meaning.specs.Cores.{settle}
 use Rattle.name_meaning.specs.Froms.{names_of, settled_columns}
-use Rattle.name_meaning.specs.Meanings.{Around, OutColumn, QueryMeant, broken_if, is_whole, query_means_at, settled}
+use Rattle.name_meaning.specs.Meanings.{Around, OutColumn, QueryMeant, broken_if, query_means_at}
 use Rattle.name_meaning.specs.Queries.{may_not_ask}
 use Rattle.name_meaning.specs.Scopes.{KnownColumn}
 use Rattle.name_meaning.specs.Statements as words
 use Rattle.name_meaning.specs.Trees.{query_of}
 use Rattle.name_meaning.specs.declared.answer.Break.{Break}
-use Rattle.name_meaning.proofs.Every.{back-none, front-none}
-use Rattle.name_meaning.proofs.Impacts.{impact-query_whole, impact-stands, tables-held}
+use Rattle.name_meaning.proofs.Impacts.{impact-query_whole, impact-stands, tables-held, earlier-none}
+use Rattle.name_meaning.proofs.Settled.{settled-names, settled-kinds}
 use Rattle.name_meaning.proofs.Trees.{query-known}
 use Rattle.name_meaning.specs.laws.Formed.{IsAnswer}
 use Rattle.name_meaning.proofs.TreeLaws.{query-answer, query-closed}
 use Rattle.name_analysis.specs.Stands.{AnswerStands, BodyStands, shown_kinds}
 use Rattle.name_meaning.specs.declared.rule.Rule.TheVariants as rule
-
-abbrev known_kinds : List KnownColumn → List Kind
-known_kinds columns = map (λ (column : KnownColumn). column.kind) columns
-
-kinds-settled : (columns : List OutColumn) → settle columns [] ≡ known_kinds (settled_columns columns)
-kinds-settled [] = refl
-kinds-settled (column ∷ columns) = ap (λ (kinds : List Kind). settled column.kind kind.Text ∷ kinds) (kinds-settled columns)
-
-names-many : (columns : List OutColumn) → length (names_of (settled_columns columns)) ≡ length columns
-names-many [] = refl
-names-many (column ∷ columns) = ap suc (names-many columns)
+use Rattle.name_meaning.specs.laws.Known.{column_kinds_of}
 
 -- the definition's columns, where they are known
 shown : (m : QueryMeant) (columns : List OutColumn) → m.columns ≡ Some columns → words.columns_of m ≡ settled_columns columns
 shown m columns known = ap (λ (held : Option (List OutColumn)). option_map_or settled_columns held []) known
-
--- the rules of names are looked at first
-names-whole : (names limits : List Break) → cond (is_whole names) limits names ≡ [] → names ≡ []
-names-whole [] limits e = refl
-names-whole (first ∷ more) limits e = e
 
 module _ (c : Contents) (sound : IsSound c) where
   -- ---- queries
@@ -60,9 +43,9 @@ module _ (c : Contents) (sound : IsSound c) where
       record {
         formed = closed.0;
         closed = closed.1;
-        kinds_are = known.kinds [] ∙ kinds-settled known.columns ∙ ap known_kinds (sym (shown m known.columns known.known));
+        kinds_are = known.kinds [] ∙ settled-kinds known.columns ∙ ap column_kinds_of (sym (shown m known.columns known.known));
         named = ap (λ (columns : List KnownColumn). length (names_of columns)) (shown m answer.columns answer.known)
-            ∙ names-many answer.columns ∙ answer.named [];
+            ∙ settled-names answer.columns ∙ answer.named [];
         keys = answer.keys [];
         tables = tables-held c sound tree around [];
       }
@@ -100,4 +83,4 @@ module _ (c : Contents) (sound : IsSound c) where
 pub statement-stands : (c : Contents) (statement : Statement) → IsSound c → RegularStatement statement → words.breaks c statement ≡ []
     → BodyStands c statement.body (words.resolved c statement)
 statement-stands c statement sound regular whole =
-    body-stands c sound statement.body regular (names-whole (words.name_breaks c statement.body) (words.limit_breaks c statement.body) whole)
+    body-stands c sound statement.body regular (earlier-none (words.name_breaks c statement.body) (words.limit_breaks c statement.body) whole)

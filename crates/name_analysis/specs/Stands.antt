@@ -1,10 +1,11 @@
 -- What holds of the query in what a regular statement resolves to: it can run on the catalog that it was looked up in.
 use Rattle.std.specs.Prelude.{◌≡◌, ⊤, true, List, [], length, map, Option, Some, None, IfSome}
+use Rattle.perm_values.specs.Rows.{KeysWithin}
 use Rattle.perm_values.specs.declared.kind.Kind.{Kind}
 use Rattle.bag_algebra.specs.Closed.{is_closed}
 use Rattle.bag_algebra.specs.Kinds.{kinds_of, width_of}
 use Rattle.bag_algebra.specs.TablesRead.{EachTable}
-use Rattle.bag_algebra.specs.WellFormed.{KeysIn, WellFormed}
+use Rattle.bag_algebra.specs.WellFormed.{WellFormed}
 use Rattle.bag_algebra.specs.declared.query.Answer.{Answer}
 use Rattle.perm_catalog.specs.Contents.{Contents}
 use Rattle.sql_tree.specs.declared.statement.StatementBody.{StatementBody}
@@ -23,7 +24,7 @@ pub record AnswerStands (c : Contents) (kinds : List Kind) (answer : Answer) : T
   pub closed : is_closed answer.query ≡ true
   pub kinds_are : kinds_of answer.query ≡ kinds
   pub named : length answer.names ≡ width_of answer.query
-  pub keys : KeysIn (width_of answer.query) answer.keys
+  pub keys : KeysWithin (width_of answer.query) answer.keys
   pub tables : EachTable (IsHeldTable c) answer.query
 
 abbrev pub answer_in : Resolved → Option Answer

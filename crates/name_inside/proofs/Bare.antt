@@ -8,6 +8,7 @@ use Rattle.bag_algebra.specs.declared.query.SubKind.{SubKind}
 use Rattle.null_logic.specs.declared.compare.Compare.TheVariants.{Equal, NotEqual}
 use Rattle.sql_tree.specs.declared.expression.ExprBody.TheOpen.{ExprBody-F}
 use Rattle.sql_tree.specs.declared.expression.ExprTree.{ExprTree}
+use Rattle.contribution.proofs.WhereGood.{Every, every-append}
 use Rattle.name_meaning.proofs.Equations.{ExprBodyFrame}
 use Rattle.name_meaning.specs.Cores.{BodyPart}
 use Rattle.name_meaning.specs.Expressions.{ArmPart, Body, StepPart, body_step, in_kind}
@@ -17,7 +18,7 @@ use Rattle.name_meaning.specs.Meanings.{Meant, Part, QueryPart, Surroundings, me
 use Rattle.name_meaning.specs.Queries.{SetStepPart}
 use Rattle.name_meaning.specs.Sublinks.{around_of, breaking, exists_meant, in_argument, in_tested, scalar_meant, tested_looked, tested_meant, tested_unlooked}
 use Rattle.name_meaning.specs.Trees.{part_of}
-use Rattle.name_meaning.proofs.Every.{Every, every-append, every-flat_map, every-map}
+use Rattle.name_meaning.proofs.Every.{every-flat_map, every-map}
 use Rattle.name_meaning.proofs.Induction.{AreKept, BodyParts, kept-part}
 use Rattle.name_inside.specs.Held.{Held, held, held_arm, held_at, held_optional, held_step}
 use Rattle.name_inside.proofs.Forms.{BarePart, IsBare, bare-over, last-some, over-body}

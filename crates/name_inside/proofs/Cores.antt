@@ -2,6 +2,7 @@
 use Rattle.std.specs.Prelude.{◌≡◌, ℕ, ℤ, Bool, true, false, cond, List, [], ◌∷◌, ◌++◌, map, flat_map, Option, Some, None, option_map, suc, length, ◌+◌, ◌<◌}
 use Rattle.std.proofs.Common.{refl, ap, sym, subst, ◌∙◌, true≢false, arith, take, get_or}
 use Rattle.std.specs.Option.{option_map_or}
+use Rattle.perm_values.proofs.Lists.{front-none, back-none, map-taken}
 use Rattle.bag_algebra.specs.declared.query.Query.{Query}
 use Rattle.perm_catalog.specs.Contents.{Contents}
 use Rattle.sql_tree.specs.declared.name.ColRef.{ColRef}
@@ -33,20 +34,21 @@ use Rattle.name_meaning.specs.Scopes.{KnownColumn, Placed, ScopeItem, item_colum
 use Rattle.name_meaning.specs.Trees.{core_of, from_item_of, from_of, item_of, join_of, part_of, query_of, set_of_tree, set_step_of, source_of}
 use Rattle.name_meaning.specs.declared.answer.Break.{Break}
 use Rattle.name_meaning.specs.declared.scope.Scope.{Scope}
-use Rattle.name_meaning.proofs.Every.{front-none, back-none, whole-none, none-whole}
+use Rattle.name_meaning.proofs.Every.{whole-none, none-whole}
+use Rattle.name_meaning.proofs.Joins.{joins-behind}
 use Rattle.name_meaning.proofs.Opened.{core-is, opened_from_item}
-use Rattle.name_inside.specs.Held.{Adds, Held, all_breaks, all_inside, clauses_of, condition_of, having_of, held_at, held_clauses, held_from, held_item, held_items, held_operand, held_optional, held_query, held_read, held_select, inside_in, items_of, query_alone, sources_of, AddsItem, AddsJoin, FromAdded, IsOwn}
+use Rattle.name_inside.specs.Held.{Adds, Held, all_breaks, all_inside, clauses_of, held_at, held_clauses, held_from, held_item, held_items, held_operand, held_optional, held_query, held_read, held_select, inside_in, query_alone, AddsItem, AddsJoin, FromAdded, IsOwn}
 use Rattle.name_inside.specs.Passed.{HasScope, HasWidth, IsReadAs, PutsRead}
 use Rattle.name_inside.specs.declared.gathered.Gathered.{Gathered}
 use Rattle.name_inside.proofs.Over.{IsOver, adds-alike, adds-both, adds-broken, adds-nothing, adds-over, adds-this, breaks-append, breaks-one, inside-append, inside-one, over-alike, over-front, over-pair, over-self}
 use Rattle.name_seen_cores.proofs.Opened.{set-is, paren-means, chain-means, step-operand, query-means}
+use Rattle.name_made_parts.specs.Cored.{select_parts, source_parts, condition_part, having_part}
 use Rattle.name_made_parts.specs.Sources.{IsScope}
-use Rattle.name_made_parts.proofs.Sourcing.{join-fields, joins-append}
+use Rattle.name_made_parts.proofs.Sourcing.{join-fields}
 use Rattle.name_seen_parts.proofs.Scoping.{more-behind, scope-beside-is}
 use Rattle.name_seen_parts.specs.Scopes.{item_scope, scope_beside}
 use Rattle.name_seen_parts.specs.Standing.{around_beside}
 use Rattle.perm_catalog.specs.declared.column.Column.{Column}
-use Rattle.name_made_parts.proofs.AskedListing.{mapped}
 
 -- ---- set operations
 
@@ -271,7 +273,7 @@ module _ (c : Contents) (outer : List Scope) (left : FromMeant) (joins : List Jo
       → AddsJoin outer (join_of c step) own wider middle new → FromAdded (join_all outer left (map (join_of c) (take (i + 1) joins))) old new wider
   step-added within is so_far adds =
       subst (λ (m : FromMeant). FromAdded m old new wider)
-      (sym (ap (join_all outer left) (mapped (join_of c) joins i step within is) ∙ joins-append outer left (map (join_of c) (take i joins)) (join_of c step)))
+      (sym (ap (join_all outer left) (map-taken (join_of c) joins i step within is) ∙ joins-behind outer left (map (join_of c) (take i joins)) (join_of c step)))
       (adds (join_all outer left (map (join_of c) (take i joins))) old so_far)
 
 -- ---- parts before and behind commas
@@ -478,26 +480,26 @@ module _ (around : Around) (word : Option ℕ) (has_from is_distinct : Bool) (it
 
 module _ (c : Contents) (around : Around) (core : Core) where
   abbrev seen_core : QueryMeant
-  seen_core = core_seen around (out-Core core).provenance (from_all around.outer (sources_of c core))
-      (has_some (sources_of c core)) (out-Core core).distinct (items_of c core) (condition_of c core) (out-Core core).groups (having_of c core)
+  seen_core = core_seen around (out-Core core).provenance (from_all around.outer (source_parts c core))
+      (has_some (source_parts c core)) (out-Core core).distinct (select_parts c core) (condition_part c core) (out-Core core).groups (having_part c core)
 
   core-stands-so : (core_of c core).means around ≡ seen_core
   core-stands-so = ap (λ (body : BodyPart). body.means around) (core-is c core)
 
   abbrev Found : Option Scope → Type 0
-  Found found = HasScope (from_all around.outer (sources_of c core)) (out-Core core).groups (having_of c core) (items_of c core) found
+  Found found = HasScope (from_all around.outer (source_parts c core)) (out-Core core).groups (having_part c core) (select_parts c core) found
 
   pub core-adds : (found : Option Scope) (scope : Scope) (old new : Gathered) → Found found → found ≡ Some scope
       → Adds (clauses_of c around scope core) old new → Adds (held_query ((core_of c core).means around) ∷ []) old new
   core-adds found scope old new is some added = adds-over
       (over-alike (ap held_query core-stands-so)
-      (core_seen-over around (out-Core core).provenance (has_some (sources_of c core)) (out-Core core).distinct (items_of c core) (sources_of c core)
-      (condition_of c core) (out-Core core).groups (having_of c core) scope (subst Found some is))) added
+      (core_seen-over around (out-Core core).provenance (has_some (source_parts c core)) (out-Core core).distinct (select_parts c core) (source_parts c core)
+      (condition_part c core) (out-Core core).groups (having_part c core) scope (subst Found some is))) added
 
   pub core-broken : (found : Option Scope) (old : Gathered) → Found found → found ≡ None → Adds (held_query ((core_of c core).means around) ∷ []) old old
   core-broken found old is none = adds-broken old
-      (λ whole. core_seen-broken around (out-Core core).provenance (has_some (sources_of c core)) (out-Core core).distinct (items_of c core) (sources_of c core)
-      (condition_of c core) (out-Core core).groups (having_of c core) (subst Found none is) (ap (λ (m : QueryMeant). m.breaks) (sym core-stands-so) ∙ whole))
+      (λ whole. core_seen-broken around (out-Core core).provenance (has_some (source_parts c core)) (out-Core core).distinct (select_parts c core) (source_parts c core)
+      (condition_part c core) (out-Core core).groups (having_part c core) (subst Found none is) (ap (λ (m : QueryMeant). m.breaks) (sym core-stands-so) ∙ whole))
 
 -- what the scope of FROM is behind GROUP BY
 pub scope-found : (input : FromMeant) (groups : List ColRef) (having : Option Part) (items : List SelectPart) (own scope : Scope) → IsScope input own
@@ -513,13 +515,13 @@ pub clauses-adds : (c : Contents) (around : Around) (scope : Scope) (core : Core
     → items ≡ (out-Core core).items → sources ≡ (out-Core core).sources
     → ((has_from : Bool) (sight : Scope) → Adds (held_items has_from sight in_list (map (item_of c) items)) old first)
     → Adds (held_from (from_all around.outer (map (from_of c) sources)) ∷ []) first second
-    → Adds (held_optional in_where (condition_of c core)) second third → Adds (held_optional in_list (having_of c core)) third new
+    → Adds (held_optional in_where (condition_part c core)) second third → Adds (held_optional in_list (having_part c core)) third new
     → Adds (clauses_of c around scope core) old new
 clauses-adds c around scope core in_list in_where items sources old first second third new list_is where_is same same_too listed from condition having =
     adds-both
-    (subst (λ (here : Surroundings). Adds (held_items (has_some (sources_of c core)) scope here (items_of c core)) old first) list_is
-    (subst (λ (items : List SelectItem). Adds (held_items (has_some (sources_of c core)) scope in_list (map (item_of c) items)) old first) same
-    (listed (has_some (sources_of c core)) scope)))
+    (subst (λ (here : Surroundings). Adds (held_items (has_some (source_parts c core)) scope here (select_parts c core)) old first) list_is
+    (subst (λ (items : List SelectItem). Adds (held_items (has_some (source_parts c core)) scope in_list (map (item_of c) items)) old first) same
+    (listed (has_some (source_parts c core)) scope)))
     (adds-both (subst (λ (sources : List FromTree). Adds (held_from (from_all around.outer (map (from_of c) sources)) ∷ []) first second) same_too from)
-    (adds-both (subst (λ (here : Surroundings). Adds (held_optional here (condition_of c core)) second third) where_is condition)
-    (subst (λ (here : Surroundings). Adds (held_optional here (having_of c core)) third new) list_is having)))
+    (adds-both (subst (λ (here : Surroundings). Adds (held_optional here (condition_part c core)) second third) where_is condition)
+    (subst (λ (here : Surroundings). Adds (held_optional here (having_part c core)) third new) list_is having)))

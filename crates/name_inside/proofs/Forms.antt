@@ -7,6 +7,7 @@ use Rattle.null_logic.specs.declared.operator.Operator.TheVariants as x
 use Rattle.null_logic.specs.declared.compare.Compare.TheVariants.{Equal, NotEqual}
 use Rattle.perm_values.specs.declared.kind.Kind.{Kind}
 use Rattle.perm_values.specs.declared.kind.Kind.TheVariants as kind
+use Rattle.perm_values.proofs.Lists.{front-none, back-none}
 use Rattle.bag_algebra.specs.declared.expr.Expr.{Expr}
 use Rattle.bag_algebra.specs.declared.expr.Expr.TheVariants.{Op, IsNull, IsTruth, Same}
 use Rattle.bag_algebra.specs.declared.query.SubKind.{SubKind}
@@ -14,6 +15,7 @@ use Rattle.perm_catalog.specs.Contents.{Contents}
 use Rattle.sql_tree.specs.declared.expression.AggWord.{AggWord}
 use Rattle.sql_tree.specs.declared.expression.ExprBody.TheOpen.{ExprBody-F}
 use Rattle.sql_tree.specs.declared.expression.ExprTree.{ExprTree}
+use Rattle.contribution.proofs.WhereGood.{Every, every-append}
 use Rattle.name_meaning.proofs.Equations.{ExprBodyFrame}
 use Rattle.name_meaning.specs.Expressions.{ArmPart, Body, StepPart, arm_operands, body_step, case_made, case_meant, chain_gives, chain_made, else_operand, first_need, first_of, in_kind, negated_if, null_meant, second_of, step_operand, times}
 use Rattle.name_meaning.specs.Meanings.{Inside, Meant, Part, QueryMeant, QueryPart, Surroundings, both_inside, broken_if, means_at, nothing_inside, seen_kind}
@@ -28,7 +30,7 @@ use Rattle.name_meaning.specs.declared.need.Need.{Need}
 use Rattle.name_meaning.specs.declared.need.Need.TheVariants.{OfKind as of_kind, Alike as alike, Free as free}
 use Rattle.name_meaning.specs.declared.scope.Found.{Found}
 use Rattle.name_meaning.specs.declared.scope.Found.TheVariants.{Absent as absent, Ambiguous as ambiguous, Column as found}
-use Rattle.name_meaning.proofs.Every.{Every, every-append, every-map, every-flat_map, front-none, back-none}
+use Rattle.name_meaning.proofs.Every.{every-map, every-flat_map}
 use Rattle.name_meaning.proofs.Induction.{AreKept, BodyParts, kept-part}
 use Rattle.name_inside.specs.Held.{Held, all_breaks, all_inside, held, held_arm, held_at, held_optional, held_query, held_step}
 use Rattle.name_inside.proofs.Over.{IsOver, breaks-append, breaks-one, both-nothing, inside-append, inside-one}

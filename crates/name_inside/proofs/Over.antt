@@ -1,7 +1,7 @@
 -- A part that breaks nothing holds what its own parts hold.
-use Rattle.std.specs.Prelude.{◌≡◌, ℕ, List, [], ◌∷◌, ◌++◌, map, flat_map, Result, Ok, Err, OnOk}
+use Rattle.std.specs.Prelude.{◌≡◌, ℕ, List, [], ◌∷◌, ◌++◌, map, flat_map}
 use Rattle.std.proofs.Common.{refl, ap, sym, subst, ◌∙◌, append_assoc, append-nil}
-use Rattle.name_meaning.proofs.Every.{front-none, back-none}
+use Rattle.perm_values.proofs.Lists.{front-none, back-none}
 use Rattle.name_meaning.specs.Meanings.{Inside, both_inside, nothing_inside}
 use Rattle.name_meaning.specs.declared.answer.Break.{Break}
 use Rattle.name_inside.specs.Held.{Adds, Held, all_breaks, all_inside, inside_in}
@@ -101,13 +101,3 @@ adds-this {h = h} {old = old} same = record {
 
 pub adds-alike : {h k : Held} {old new : Gathered} → h ≡ k → Adds (k ∷ []) old new → Adds (h ∷ []) old new
 adds-alike {old = old} {new = new} e added = subst (λ (h : Held). Adds (h ∷ []) old new) (sym e) added
-
--- ---- what holds where there was enough memory
-
-pub when-ok : {X E P Q : Type 0} (result : Result X E) → OnOk result P → (P → Q) → OnOk result Q
-when-ok (Ok x) holds f = f holds
-when-ok (Err e) holds f = tt
-
-pub ok-anyway : {X E P : Type 0} (result : Result X E) → P → OnOk result P
-ok-anyway (Ok x) holds = holds
-ok-anyway (Err e) holds = tt

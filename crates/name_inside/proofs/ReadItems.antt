@@ -1,6 +1,7 @@
 -- What an item of FROM reads, under its name.
 use Rattle.std.specs.Prelude.{◌≡◌, ℕ, List, [], ◌∷◌, Option, Some, None, Ok, Err}
 use Rattle.std.proofs.Common.{ap, sym, subst, ◌∙◌}
+use Rattle.perm_values.proofs.Lists.{front-none}
 use Rattle.perm_catalog.specs.Contents.{Contents}
 use Rattle.perm_catalog.specs.declared.column.Column.{Column}
 use Rattle.sql_tree.specs.declared.source.FromItem.{FromItem}
@@ -9,7 +10,6 @@ use Rattle.name_meaning.specs.Froms.{FromItemPart, ItemMeant, Read, item_meant, 
 use Rattle.name_meaning.specs.Meanings.{Around}
 use Rattle.name_meaning.specs.Trees.{from_item_of, source_of}
 use Rattle.name_meaning.specs.declared.answer.Break.{Break}
-use Rattle.name_meaning.proofs.Every.{front-none}
 use Rattle.name_seen_cores.specs.from.Readings.{IsRead}
 use Rattle.name_seen_cores.specs.declared.from.reading.Reading.{Reading}
 use Rattle.name_seen_parts.specs.Seen.{first_or}

@@ -2,7 +2,7 @@
 use Rattle.std.specs.Prelude.{◌≡◌, ℕ, ◌+◌, ◌<◌, Bool, true, false, cond, List, [], ◌∷◌, length, nat_lt, find, Option, Some, None, Result, Ok, Err}
 use Rattle.std.proofs.Common.{refl, ap, sym, ◌∙◌, drop, get_or}
 use Rattle.std.specs.Option.{option_map_or}
-use Rattle.name_seen_parts.proofs.Firsts.{dropped}
+use Rattle.perm_values.proofs.Lists.{dropped}
 use Rattle.name_meaning.specs.Meanings.{broken}
 use Rattle.name_meaning.specs.Statements.{most_query_columns, width_limit}
 use Rattle.name_meaning.specs.declared.answer.Break.{Break}

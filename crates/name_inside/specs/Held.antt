@@ -1,7 +1,7 @@
 -- What stands inside parts that may break.
-use Rattle.std.specs.Prelude.{◌≡◌, ℕ, Bool, true, false, List, [], ◌∷◌, ◌++◌, map, Option, Some, None, option_map, nat_lt}
+use Rattle.std.specs.Prelude.{◌≡◌, ℕ, Bool, true, false, List, [], ◌∷◌, ◌++◌, map, Option, Some, None, nat_lt}
 use Rattle.perm_catalog.specs.Contents.{Contents}
-use Rattle.sql_tree.specs.declared.query.Core.{Core, out-Core}
+use Rattle.sql_tree.specs.declared.query.Core.{Core}
 use Rattle.name_meaning.specs.Cores.{has_some}
 use Rattle.name_meaning.specs.Expressions.{ArmPart, StepPart}
 use Rattle.name_meaning.specs.Froms.{FromItemPart, FromMeant, FromPart, ItemMeant, JoinPart, Read, from_all, in_clause, join_item, joined_item}
@@ -9,13 +9,13 @@ use Rattle.name_meaning.specs.Items.{SelectMeant, SelectPart}
 use Rattle.name_meaning.specs.Meanings.{Around, Inside, Meant, Part, QueryMeant, Surroundings, both_inside, nothing_inside, means_at}
 use Rattle.name_meaning.specs.Queries.{SetStepPart, may_not_ask}
 use Rattle.name_meaning.specs.Statements.{most_query_columns}
-use Rattle.name_meaning.specs.Trees.{from_of, item_of, part_of}
 use Rattle.name_meaning.specs.declared.answer.Break.{Break}
 use Rattle.name_meaning.specs.declared.scope.Scope.{Scope}
 use Rattle.name_inside.specs.declared.gathered.Gathered.{Gathered}
 use Rattle.name_meaning.specs.Scopes.{ScopeItem, scope_of}
 use Rattle.name_inside.specs.Passed.{IsReadAs, PutsRead}
 use Rattle.perm_catalog.specs.declared.column.Column.{Column}
+use Rattle.name_made_parts.specs.Cored.{select_parts, source_parts, condition_part, having_part}
 
 abbrev pub inside_in : Gathered → Inside
 inside_in found = record { queries = found.queries; names = found.names }
@@ -97,22 +97,9 @@ held_clauses around scope has_from items sources condition having =
     ∷ (held_optional (in_clause (record scope { groups = None }) around.outer false) condition
     ++ held_optional (in_clause scope around.outer true) having))
 
--- a core where it stands, and its parts
-abbrev pub items_of : Contents → Core → List SelectPart
-items_of c core = map (item_of c) (out-Core core).items
-
-abbrev pub sources_of : Contents → Core → List FromPart
-sources_of c core = map (from_of c) (out-Core core).sources
-
-abbrev pub condition_of : Contents → Core → Option Part
-condition_of c core = option_map (part_of c) (out-Core core).condition
-
-abbrev pub having_of : Contents → Core → Option Part
-having_of c core = option_map (part_of c) (out-Core core).having
-
 abbrev pub clauses_of : Contents → Around → Scope → Core → List Held
 clauses_of c around scope core =
-    held_clauses around scope (has_some (sources_of c core)) (items_of c core) (sources_of c core) (condition_of c core) (having_of c core)
+    held_clauses around scope (has_some (source_parts c core)) (select_parts c core) (source_parts c core) (condition_part c core) (having_part c core)
 
 -- ---- FROM, gone through from the left
 

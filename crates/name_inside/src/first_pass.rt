@@ -7,7 +7,7 @@ ghost use Rattle.perm_catalog.specs.Contents.{Contents};
 ghost use Rattle.name_seen_parts.specs.Standing.{around_of};
 ghost use Rattle.perm_catalog.specs.Sound.{IsSound};
 ghost use Rattle.sql_tree.specs.declared.query.Core.{out-Core};
-ghost use Rattle.name_inside.specs.Held.{having_of, items_of, sources_of};
+ghost use Rattle.name_made_parts.specs.Cored.{select_parts, source_parts, having_part};
 ghost use Rattle.name_inside.specs.Passed.{HasScope, HasWidth, IsReadAs, PutsRead};
 
 use name_made_parts::scope_or_none;
@@ -37,9 +37,9 @@ pub(crate) fn width_of(tree: &QueryTree, around: &Around) -> Result<Option<usize
 pub(crate) fn scope_of(core: &Core, around: &Around) -> Result<Option<Scope>, NoMemory>
     requires { IsSound around.now.catalog.now }
     ensures { IfOk result (HasScope (from_all (around_of around.now).outer
-        (sources_of around.now.catalog.now core.now))
-        (out-Core core.now).groups (having_of around.now.catalog.now core.now)
-        (items_of around.now.catalog.now core.now)) }
+        (source_parts around.now.catalog.now core.now))
+        (out-Core core.now).groups (having_part around.now.catalog.now core.now)
+        (select_parts around.now.catalog.now core.now)) }
 {
     match scope_or_none(core.sources.as_slice(), around)? {
         None => Ok(None),

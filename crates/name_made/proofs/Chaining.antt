@@ -5,6 +5,7 @@ use Rattle.std.proofs.lemmas.List.{map-append, take-append-drop}
 use Rattle.bag_algebra.specs.declared.query.Query.{Query}
 use Rattle.perm_catalog.specs.Contents.{Contents}
 use Rattle.perm_values.specs.declared.kind.Kind.{Kind}
+use Rattle.perm_values.proofs.Lists.{map-taken}
 use Rattle.sql_tree.specs.declared.query.SetStep.{SetStep}
 use Rattle.name_meaning.specs.Meanings.{Around, QueryMeant}
 use Rattle.name_meaning.specs.Queries.{SetStepPart, set_chain, set_joined, set_of, may_not_ask}
@@ -12,7 +13,6 @@ use Rattle.name_meaning.specs.Trees.{set_of_tree, set_step_of}
 use Rattle.name_made_nodes.specs.Chained.{Serves}
 use Rattle.name_made_nodes.specs.Makes.{MakesQuery}
 use Rattle.name_made_nodes.proofs.Chains.{chain-append, joined-made, serves-so-far}
-use Rattle.name_made_parts.proofs.AskedListing.{mapped}
 use Rattle.name_made_parts.proofs.Querying.{step-is}
 
 -- a chain made on what stands before it, where these kinds serve the whole
@@ -32,7 +32,7 @@ chain-step c around meant kinds steps i step before operand after within is serv
     let part = set_step_of c step in
     let right = part.operand.means (may_not_ask around) in
     let joined : set_chain around meant (map (set_step_of c) (take (i + 1) steps)) ≡ set_joined left part right =
-    ap (set_chain around meant) (mapped (set_step_of c) steps i step within is) ∙ chain-append around meant (map (set_step_of c) (take i steps)) (part ∷ []) in
+    ap (set_chain around meant) (map-taken (set_step_of c) steps i step within is) ∙ chain-append around meant (map (set_step_of c) (take i steps)) (part ∷ []) in
     let whole : map (set_step_of c) steps ≡ map (set_step_of c) (take (i + 1) steps) ++ map (set_step_of c) (drop (i + 1) steps) =
     ap (map (set_step_of c)) (sym (take-append-drop (i + 1) steps)) ∙ map-append (set_step_of c) (take (i + 1) steps) (drop (i + 1) steps) in
     let so_far : Serves (set_chain around meant (map (set_step_of c) (take (i + 1) steps))) kinds =

@@ -6,9 +6,11 @@ use Rattle.bag_algebra.specs.declared.expr.Item.{Item}
 use Rattle.bag_algebra.specs.declared.query.Query.{Query}
 use Rattle.bag_algebra.specs.declared.query.Query.TheVariants.{Apply}
 use Rattle.sql_tree.specs.Regular.{is_lateral}
+use Rattle.name_meaning.proofs.Joins.{joins-behind}
 use Rattle.name_meaning.proofs.Lateral.{join-items}
 use Rattle.perm_catalog.specs.Contents.{Contents}
 use Rattle.perm_values.specs.declared.kind.Kind.{Kind}
+use Rattle.perm_values.proofs.Lists.{map-taken}
 use Rattle.sql_tree.specs.declared.query.SelectItem.{SelectItem}
 use Rattle.sql_tree.specs.declared.source.FromTree.{FromTree, out-FromTree}
 use Rattle.sql_tree.specs.declared.source.JoinStep.{JoinStep, out-JoinStep}
@@ -20,11 +22,11 @@ use Rattle.name_meaning.specs.Trees.{from_item_of, from_of, item_of, join_of, pa
 use Rattle.name_meaning.specs.declared.scope.Scope.{Scope}
 use Rattle.name_made_nodes.specs.Listed.{MakesItems}
 use Rattle.name_made_nodes.specs.declared.within.Within.{Within}
+use Rattle.name_seen.proofs.FromTrees.{from-means}
 use Rattle.name_made_parts.specs.Cored.{items_meant}
 use Rattle.name_made_parts.specs.Sources.{JoinsMade, MakesBeside, MakesJoin, MakesOn, MakesSource, join_count, join_on_kept}
 use Rattle.name_made_parts.proofs.Coring.{next-listed}
-use Rattle.name_made_parts.proofs.AskedListing.{mapped}
-use Rattle.name_made_parts.proofs.Sourcing.{both-count, from-fields, join-fields, join-made, join-more, joins-append, lateral-made, one-item}
+use Rattle.name_made_parts.proofs.Sourcing.{both-count, join-fields, join-made, join-more, lateral-made, one-item}
 use Rattle.name_made_parts.specs.declared.asked.cores.Kept.{Kept}
 
 pub of-on : {X E : Type 0} (P Q : Type 0) (result : Result X E) → (P → Q) → OnOk result P → OnOk result Q
@@ -41,7 +43,7 @@ pub items-more : (c : Contents) (may_link has_from : Bool) (scope : Scope) (here
 items-more c may_link has_from scope here items i item wanted q r old before after within is first second =
     let meant = λ (part : SelectPart). part.means has_from scope here in
     subst (λ (ms : List SelectMeant). MakesItems may_link ms wanted [] r old after)
-    (sym (ap (map meant) (mapped (item_of c) items i item within is) ∙ map-append meant (map (item_of c) (take i items)) (item_of c item ∷ [])))
+    (sym (ap (map meant) (map-taken (item_of c) items i item within is) ∙ map-append meant (map (item_of c) (take i items)) (item_of c item ∷ [])))
     (next-listed may_link (items_meant has_from scope here (map (item_of c) (take i items))) (items_meant has_from scope here (item_of c item ∷ [])) wanted q r old before after first second)
 
 -- ---- how many items a `from` has
@@ -62,7 +64,7 @@ from-count c tree outer earlier items known =
     let first = first_item earlier ((from_item_of c (out-FromTree tree).first).means (in_from outer) earlier) in
     let steps = map (join_of c) (out-FromTree tree).joins in
     let all = joins-count outer first steps 1 (one-item ((from_item_of c (out-FromTree tree).first).means (in_from outer) earlier)) items
-    (ap (λ (m : FromMeant). m.items) (sym (from-fields c tree outer earlier)) ∙ known) in
+    (ap (λ (m : FromMeant). m.items) (sym (from-means c tree outer earlier)) ∙ known) in
     let size = length-map (out-FromTree tree).joins (join_of c) in
     omega (arith, all, size)
 
@@ -77,7 +79,7 @@ step-more c outer left joins i step first scope before after within is so_far ma
     let next : suc i ≡ i + 1 = omega arith in
     subst (λ (n : ℕ). JoinsMade (join_all outer left (map (join_of c) (take (i + 1) joins))) first scope after n) next
     (subst (λ (m : FromMeant). JoinsMade m first scope after (suc i))
-    (sym (ap (join_all outer left) (mapped (join_of c) joins i step within is) ∙ joins-append outer left (map (join_of c) (take i joins)) (join_of c step)))
+    (sym (ap (join_all outer left) (map-taken (join_of c) joins i step within is) ∙ joins-behind outer left (map (join_of c) (take i joins)) (join_of c step)))
     (join-more outer (join_all outer left (map (join_of c) (take i joins))) (join_of c step) first i scope before after so_far makes))
 
 abbrev fields : Contents → JoinStep → JoinPart

@@ -107,7 +107,8 @@ pub(crate) fn condition_made(
 ) -> Result<Kept, NoMemory>
     requires { IsSound around.now.catalog.now }
     ensures { IfOk result (Keeps (optional_meant
-        (in_clause (here_only (not in_groups) scope.now) (scopes_of around.now.outer.now) in_groups) (option_map (part_of around.now.catalog.now) condition.now))) }
+        (in_clause (here_only (not in_groups) scope.now) (scopes_of around.now.outer.now) in_groups)
+        (option_map (part_of around.now.catalog.now) condition.now))) }
 {
     match condition {
         None => Ok(nothing_kept(around.alloc)),

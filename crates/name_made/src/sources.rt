@@ -54,7 +54,8 @@ fn source_made(
 ) -> Result<Query, NoMemory>
     requires { IsSound around.now.catalog.now }
     ensures { IfOk result (λ query. (earlier : List (List ℕ)) →
-        MakesFrom ((from_of around.now.catalog.now source.now).means (scopes_of around.now.outer.now) earlier) first scope.now query) }
+        MakesFrom ((from_of around.now.catalog.now source.now).means (scopes_of around.now.outer.now) earlier)
+        first scope.now query) }
 {
     let mut whole = item_made(&source.first, &around.in_from())?;
     for (place, step) in source.joins.as_slice().iter().enumerate() {

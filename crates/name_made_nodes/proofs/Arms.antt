@@ -1,5 +1,5 @@
 -- What an expression of one form is made of, its parts made where they stand.
-use Rattle.std.specs.Prelude.{◌≡◌, ℕ, ◌+◌, Bool, false, List, [], ◌∷◌, ◌++◌, map, flat_map, length, Ok, Err, IfOk, Result}
+use Rattle.std.specs.Prelude.{◌≡◌, ℕ, ◌+◌, Bool, false, List, [], ◌∷◌, ◌++◌, map, flat_map, length}
 use Rattle.std.proofs.Common.{refl, ap, sym, subst, ◌∙◌, arith, append_assoc, length-append}
 use Rattle.std.proofs.lemmas.Grind.{flat_map-append}
 use Rattle.std.proofs.lemmas.List.{map-append}
@@ -12,6 +12,7 @@ use Rattle.bag_algebra.specs.declared.expr.Expr.{Expr}
 use Rattle.bag_algebra.specs.declared.expr.Expr.TheVariants.{Chain, Case}
 use Rattle.perm_values.specs.declared.kind.Kind.{Kind}
 use Rattle.perm_values.specs.declared.kind.Kind.TheVariants as kind
+use Rattle.perm_values.proofs.Lists.{back-none}
 use Rattle.perm_catalog.specs.Contents.{Contents}
 use Rattle.sql_tree.specs.declared.expression.ExprStep.{ExprStep}
 use Rattle.name_meaning.specs.Trees.{step_of}
@@ -26,13 +27,7 @@ use Rattle.name_meaning.specs.declared.need.Need.{Need}
 use Rattle.name_meaning.specs.declared.need.Need.TheVariants.{OfKind, Alike}
 use Rattle.name_made_nodes.specs.Makes.{before_of, with_found, arm_exprs, Makes, MakesMore, MakesSteps, MakesArms}
 use Rattle.name_made_nodes.specs.declared.within.Within.{Within}
-use Rattle.name_made_nodes.proofs.Parts.{none-second, with-nothing, none-more, one-more, more-more, node-made}
-
--- ---- results
-
-pub of-ok : {X E : Type 0} (P Q : X → Type 0) (result : Result X E) → ((x : X) → P x → Q x) → IfOk result P → IfOk result Q
-of-ok P Q (Ok x) f p = f x p
-of-ok P Q (Err e) f p = tt
+use Rattle.name_made_nodes.proofs.Parts.{with-nothing, none-more, one-more, more-more, node-made}
 
 -- ---- what needs no part
 
@@ -52,7 +47,7 @@ pub broken-made : (m : Meant) (wanted : Kind) (e : Expr) (w : Within) (earlier :
     → m.breaks ≡ earlier ++ last ∷ [] → (may_link : Bool) → Makes may_link m wanted e w w
 broken-made m wanted e w earlier last some may_link =
     record {
-      makes = λ whole. let none : last ∷ [] ≡ [] = none-second earlier (last ∷ []) (sym some ∙ whole) in absurd (cc);
+      makes = λ whole. let none : last ∷ [] ≡ [] = back-none earlier (last ∷ []) (sym some ∙ whole) in absurd (cc);
       unlinked = λ _. refl;
     }
 

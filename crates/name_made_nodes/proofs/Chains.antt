@@ -4,26 +4,12 @@ use Rattle.std.proofs.Common.{refl, ap, sym, ◌∙◌}
 use Rattle.bag_algebra.specs.declared.query.Query.{Query}
 use Rattle.perm_values.specs.declared.kind.Kind.{Kind}
 use Rattle.perm_values.specs.declared.kind.Kind.TheVariants as kind
+use Rattle.perm_values.proofs.Lists.{front-none, back-none}
 use Rattle.name_meaning.specs.Cores.{settle, settle_known}
 use Rattle.name_meaning.specs.Meanings.{Around, OutColumn, QueryMeant, settled, united_kind}
 use Rattle.name_meaning.specs.Queries.{SetStepPart, columns_so_far, operand_breaks, set_chain, set_joined, set_of, united_columns, may_not_ask}
 use Rattle.name_made_nodes.specs.Chained.{Serves}
 use Rattle.name_made_nodes.specs.Makes.{MakesQuery}
-use Rattle.name_made_nodes.proofs.Parts.{none-first, none-second}
-
-settled-twice : (known : Option Kind) (wanted : Kind) → settled known (settled known wanted) ≡ settled known wanted
-settled-twice None wanted = refl
-settled-twice (Some kind) wanted = refl
-
--- kinds at which columns are made stay so
-pub settle-twice : (columns : List OutColumn) (wanted : List Kind) → settle columns (settle columns wanted) ≡ settle columns wanted
-settle-twice [] wanted = refl
-settle-twice (column ∷ columns) [] =
-    ap (λ (k : Kind). k ∷ settle columns (settle columns [])) (settled-twice column.kind kind.Text)
-    ∙ ap (λ (ks : List Kind). settled column.kind kind.Text ∷ ks) (settle-twice columns [])
-settle-twice (column ∷ columns) (k ∷ ks) =
-    ap (λ (k : Kind). k ∷ settle columns (settle columns ks)) (settled-twice column.kind k)
-    ∙ ap (λ (ks : List Kind). settled column.kind k ∷ ks) (settle-twice columns ks)
 
 settled-first : (left right : Option Kind) (k : Kind) → settled (united_kind left right) k ≡ k → settled left k ≡ k
 settled-first None right k e = refl
@@ -55,7 +41,7 @@ serves-first : (left : QueryMeant) (step : SetStepPart) (right : QueryMeant) (ki
 serves-first left step right kinds s =
     let known = first-known left.columns right.columns s.columns s.known in
     record {
-      whole = none-first left.breaks right.breaks (none-first (left.breaks ++ right.breaks) (operand_breaks step.at left.columns right.columns) s.whole);
+      whole = front-none left.breaks right.breaks (front-none (left.breaks ++ right.breaks) (operand_breaks step.at left.columns right.columns) s.whole);
       columns = known.0;
       known = known.1;
       serves = known-first left.columns right.columns kinds s.columns s.known s.serves;
@@ -69,7 +55,7 @@ serves-so-far around left (step ∷ steps) kinds s =
 
 pub right-whole : (left : QueryMeant) (step : SetStepPart) (right : QueryMeant) (kinds : List Kind) → Serves (set_joined left step right) kinds → right.breaks ≡ []
 right-whole left step right kinds s =
-    none-second left.breaks right.breaks (none-first (left.breaks ++ right.breaks) (operand_breaks step.at left.columns right.columns) s.whole)
+    back-none left.breaks right.breaks (front-none (left.breaks ++ right.breaks) (operand_breaks step.at left.columns right.columns) s.whole)
 
 -- one more operand at the same kinds
 pub joined-made : (left : QueryMeant) (step : SetStepPart) (right : QueryMeant) (kinds : List Kind) (a b : Query)

@@ -1,5 +1,5 @@
 -- The items of a SELECT list made one after the other are the list made.
-use Rattle.std.specs.Prelude.{◌≡◌, ℕ, ◌+◌, Bool, true, false, cond, List, [], ◌∷◌, ◌++◌, map, length, take, drop, filter, Option, Some, None, option_map}
+use Rattle.std.specs.Prelude.{◌≡◌, ℕ, ◌+◌, Bool, true, false, List, [], ◌∷◌, ◌++◌, map, length, take, drop, filter, Option, Some, None, option_map}
 use Rattle.std.specs.Option.{option_map_or}
 use Rattle.std.proofs.Common.{refl, ap, sym, subst, ◌∙◌, arith, append_assoc, length-append}
 use Rattle.std.proofs.lemmas.List.{append-nil, drop-drop, length-map}
@@ -8,9 +8,10 @@ use Rattle.bag_algebra.specs.declared.expr.Item.{Item}
 use Rattle.bag_algebra.specs.declared.query.Aggr.{Aggr}
 use Rattle.bag_algebra.specs.declared.query.Sublink.{Sublink}
 use Rattle.perm_values.specs.declared.kind.Kind.{Kind}
+use Rattle.perm_values.proofs.Lists.{front-none, back-none}
 use Rattle.sql_tree.specs.declared.name.Name.{Name}
 use Rattle.name_meaning.specs.Items.{SelectMeant, Made, column_item, columns_meant, first_wanted, items_breaks, made_before, made_items, no_columns, star_meant, table_star_meant, titled, value_made, value_meant, width_of_item}
-use Rattle.name_meaning.specs.Meanings.{Before, Meant, broken, is_whole, seen_kind, settled}
+use Rattle.name_meaning.specs.Meanings.{Before, Meant, broken, seen_kind, settled}
 use Rattle.name_meaning.specs.Operands.{behind}
 use Rattle.name_meaning.specs.Scopes.{Placed, placed, item_number, is_of_item}
 use Rattle.name_meaning.specs.declared.answer.Break.{Break}
@@ -18,8 +19,9 @@ use Rattle.name_meaning.specs.declared.scope.Scope.{Scope}
 use Rattle.name_made_nodes.specs.Listed.{widths, AreListed, MakesItems}
 use Rattle.name_made_nodes.specs.Makes.{before_of, with_found, Makes}
 use Rattle.name_made_nodes.specs.declared.within.Within.{Within}
-use Rattle.name_made_nodes.proofs.Parts.{none-first, none-second, with-nothing, with-both, before-with, behind-nothing, behind-both}
+use Rattle.name_made_nodes.proofs.Parts.{with-nothing, with-both, before-with, behind-nothing, behind-both}
 use Rattle.name_meaning.specs.declared.rule.Rule.TheVariants as rule
+use Rattle.name_meaning.proofs.Every.{whole-kind}
 
 breaks-append : (ms more : List SelectMeant) → items_breaks (ms ++ more) ≡ items_breaks ms ++ items_breaks more
 breaks-append [] more = refl
@@ -72,8 +74,8 @@ more-listed may_link ms more wanted p q r a b c first second =
     record {
       makes = λ whole.
           let made = made_items ms wanted (before_of a) in
-          let one = first.makes (none-first (items_breaks ms) (items_breaks more) (apart whole)) in
-          let two = second.makes (none-second (items_breaks ms) (items_breaks more) (apart whole)) in
+          let one = first.makes (front-none (items_breaks ms) (items_breaks more) (apart whole)) in
+          let two = second.makes (back-none (items_breaks ms) (items_breaks more) (apart whole)) in
           let at : before_of b ≡ behind (before_of a) made.subs made.aggregates = ap before_of one.found ∙ before-with a made.subs made.aggregates in
           let rest = made_items more later (behind (before_of a) made.subs made.aggregates) in
           let all : made_before made rest ≡ made_items (ms ++ more) wanted (before_of a) = sym (items-append ms more wanted (before_of a)) in
@@ -85,8 +87,8 @@ more-listed may_link ms more wanted p q r a b c first second =
                 ∙ ap (λ (made : Made). with_found a made.subs made.aggregates) all;
           };
       wide = λ whole.
-          let one = first.wide (none-first (items_breaks ms) (items_breaks more) (apart whole)) in
-          let two = second.wide (none-second (items_breaks ms) (items_breaks more) (apart whole)) in
+          let one = first.wide (front-none (items_breaks ms) (items_breaks more) (apart whole)) in
+          let two = second.wide (back-none (items_breaks ms) (items_breaks more) (apart whole)) in
           let both = widths-append ms more in
           omega (arith, one, two, both);
       unlinked = λ none. second.unlinked none ∙ first.unlinked none;
@@ -102,13 +104,13 @@ one-listed may_link m wanted p q old new makes wide unlinked =
     let first = m.make (take (width_of_item m) wanted) (before_of old) in
     record {
       makes = λ whole.
-          let listed = makes (none-first m.breaks [] whole) in
+          let listed = makes (front-none m.breaks [] whole) in
           record {
             items = listed.items ∙ ap (λ (items : List Item). p ++ items) (sym (append-nil first.items));
             found = listed.found ∙ ap (λ (subs : List Sublink). with_found old subs first.aggregates) (sym (append-nil first.subs))
                 ∙ ap (λ (aggregates : List Aggr). with_found old (first.subs ++ []) aggregates) (sym (append-nil first.aggregates));
           };
-      wide = λ whole. let one = wide (none-first m.breaks [] whole) in omega (arith, one);
+      wide = λ whole. let one = wide (front-none m.breaks [] whole) in omega (arith, one);
       unlinked = unlinked;
     }
 
@@ -130,9 +132,6 @@ broken-listed may_link m wanted p w first more some =
 
 -- ---- an expression
 
-whole-seen : (m : Meant) → m.breaks ≡ [] → seen_kind m ≡ m.kind
-whole-seen m whole = ap (λ (breaks : List Break). cond (is_whole breaks) m.kind None) whole
-
 abbrev pub value_kind : Meant → List Kind → Kind
 value_kind m wanted = settled (seen_kind m) (first_wanted wanted)
 
@@ -147,7 +146,7 @@ value-listed may_link name m wanted kind e p old new is made =
     one-listed may_link (value_meant name m) wanted p (p ++ record { expr = e; kind = kind } ∷ []) old new
     (λ whole.
     let same : kind ≡ settled m.kind (first_wanted (take 1 wanted)) =
-    is ∙ ap (λ (k : Option Kind). settled k (first_wanted wanted)) (whole-seen m whole) ∙ ap (settled m.kind) (sym (first-taken wanted)) in
+    is ∙ ap (λ (k : Option Kind). settled k (first_wanted wanted)) (whole-kind m whole) ∙ ap (settled m.kind) (sym (first-taken wanted)) in
     subst (λ (k : Kind). AreListed (value_made k (m.make k (before_of old))) p (p ++ record { expr = e; kind = kind } ∷ []) old new) same
     (let built = made.makes whole in
     record { items = ap (λ (e : Expr). p ++ record { expr = e; kind = kind } ∷ []) built.expr; found = built.found }))

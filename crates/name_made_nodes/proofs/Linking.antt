@@ -10,6 +10,7 @@ use Rattle.bag_algebra.specs.declared.query.SubKind.TheVariants as sub
 use Rattle.bag_algebra.specs.declared.query.Sublink.{Sublink}
 use Rattle.perm_values.specs.declared.kind.Kind.{Kind}
 use Rattle.perm_values.specs.declared.kind.Kind.TheVariants as kind
+use Rattle.perm_values.proofs.Lists.{front-none, back-none}
 use Rattle.sql_tree.specs.declared.expression.AggWord.{AggWord}
 use Rattle.name_meaning.specs.Scopes.{group_count}
 use Rattle.name_meaning.specs.Meanings.{Built, Meant, Part, QueryMeant, QueryPart, Surroundings, means_at, query_means_at, broken, broken_if, seen_kind, settled}
@@ -17,7 +18,6 @@ use Rattle.name_meaning.specs.Sublinks.{aggregate_kind, aggregate_made, function
 use Rattle.name_made_nodes.specs.Makes.{before_of, nothing_found, with_found, IsBuilt, Makes, Links}
 use Rattle.name_made_nodes.specs.declared.within.Within.{Within}
 use Rattle.name_made_nodes.proofs.Arms.{broken-made}
-use Rattle.name_made_nodes.proofs.Parts.{none-first, none-second}
 use Rattle.name_meaning.specs.declared.rule.Rule.TheVariants as rule
 
 -- a sublink of a query alone, where one may stand
@@ -48,7 +48,7 @@ pub scalar-linked : (here : Surroundings) (at query_at : ℕ) (wanted kind : Kin
 scalar-linked here at query_at wanted kind query e old new stands is links =
     subst (λ (stands : Bool). Makes here.sublinks (cond stands (scalar_meant here query_at query) (breaking rule.MisplacedSublink at None)) wanted e old new) (sym stands)
     (alone-linked here.sublinks sub.Scalar query (kind ∷ []) (scalar_meant here query_at query) wanted e old new stands
-    (λ whole. none-first query.breaks (broken_if _ rule.UnfitWidth query_at) whole)
+    (λ whole. front-none query.breaks (broken_if _ rule.UnfitWidth query_at) whole)
     (ap (λ (k : Kind). sub_built sub.Scalar None (before_of old) query (k ∷ [])) (sym is)) links)
 
 -- where no sublink may stand, none is looked at
@@ -74,9 +74,9 @@ looked-made may_link kind tested query_at query common wanted e left old mid new
     let same : mid.subs ≡ old.subs = made.unlinked refl in
     record {
       makes = λ whole.
-          let breaks = none-first (tested.breaks ++ query.breaks) (tested_break (seen_kind tested) query_at query) whole in
-          let of_tested = made.makes (none-first tested.breaks query.breaks breaks) in
-          let of_query = links.found (none-second tested.breaks query.breaks breaks) in
+          let breaks = front-none (tested.breaks ++ query.breaks) (tested_break (seen_kind tested) query_at query) whole in
+          let of_tested = made.makes (front-none tested.breaks query.breaks breaks) in
+          let of_query = links.found (back-none tested.breaks query.breaks breaks) in
           subst (λ (k : Kind). IsBuilt (record {
             expr = Sub (length old.subs);
             subs = record { kind = kind; tested = Some (tested.make k (before_of old)).expr; query = query.make (k ∷ []) } ∷ [];
@@ -132,8 +132,8 @@ pub aggregated-made : (may_link : Bool) (here : Surroundings) (at argument_at : 
 aggregated-made may_link here at argument_at word argument wanted part e own old new made built =
     record {
       makes = λ whole.
-          let breaks = none-first argument.breaks (broken_if (not here.aggregates) rule.MisplacedAggregate at)
-          (none-first (argument.breaks ++ broken_if (not here.aggregates) rule.MisplacedAggregate at) (broken_if (not (takes_kind word (seen_kind argument))) rule.UnfitKind argument_at) whole) in
+          let breaks = front-none argument.breaks (broken_if (not here.aggregates) rule.MisplacedAggregate at)
+          (front-none (argument.breaks ++ broken_if (not here.aggregates) rule.MisplacedAggregate at) (broken_if (not (takes_kind word (seen_kind argument))) rule.UnfitKind argument_at) whole) in
           subst (λ (part : Expr). IsBuilt (aggregate_made here word (seen_kind argument) (Some part) (before_of old)) e old new) (made.makes breaks).expr built;
       unlinked = λ _. ap (λ (w : Within). w.subs) built.found ∙ append-nil old.subs;
     }

@@ -6,6 +6,7 @@ use Rattle.bag_algebra.specs.declared.expr.Expr.{Expr}
 use Rattle.bag_algebra.specs.declared.query.Aggr.{Aggr}
 use Rattle.bag_algebra.specs.declared.query.Sublink.{Sublink}
 use Rattle.perm_values.specs.declared.kind.Kind.{Kind}
+use Rattle.perm_values.proofs.Lists.{front-none, back-none}
 use Rattle.name_meaning.specs.Meanings.{Before, Built, settled}
 use Rattle.name_meaning.specs.Operands.{BuiltParts, Operand, behind, built_first, made_parts, parts_breaks, wanted_of, united, alike_wanted, node, unfit_break, first_unfit}
 use Rattle.name_meaning.specs.declared.answer.Break.{Break}
@@ -14,14 +15,6 @@ use Rattle.name_made_nodes.specs.Makes.{before_of, with_found, Makes, MakesMore}
 use Rattle.name_made_nodes.specs.declared.within.Within.{Within}
 
 -- ---- lists that hold nothing
-
-pub none-first : {X : Type 0} (xs ys : List X) → xs ++ ys ≡ [] → xs ≡ []
-none-first [] ys e = refl
-none-first (x ∷ xs) ys e = absurd (cc)
-
-pub none-second : {X : Type 0} (xs ys : List X) → xs ++ ys ≡ [] → ys ≡ []
-none-second [] ys e = e
-none-second (x ∷ xs) ys e = absurd (cc)
 
 breaks-append : (os more : List Operand) → parts_breaks (os ++ more) ≡ parts_breaks os ++ parts_breaks more
 breaks-append [] more = refl
@@ -92,7 +85,7 @@ one-more may_link kind o es e old new made =
     let first = o.meant.make (wanted_of kind o.need) (before_of old) in
     record {
       makes = λ whole.
-          let built = made.makes (none-first o.meant.breaks [] whole) in
+          let built = made.makes (front-none o.meant.breaks [] whole) in
           record {
             exprs = ap (λ (e : Expr). es ++ e ∷ []) built.expr;
             found = built.found ∙ ap (λ (subs : List Sublink). with_found old subs first.aggregates) (sym (append-nil first.subs))
@@ -108,8 +101,8 @@ more-more may_link kind os more p q r a b c first second =
       makes = λ whole.
           let breaks : parts_breaks os ++ parts_breaks more ≡ [] = sym (breaks-append os more) ∙ whole in
           let parts = made_parts kind os (before_of a) in
-          let one = first.makes (none-first (parts_breaks os) (parts_breaks more) breaks) in
-          let two = second.makes (none-second (parts_breaks os) (parts_breaks more) breaks) in
+          let one = first.makes (front-none (parts_breaks os) (parts_breaks more) breaks) in
+          let two = second.makes (back-none (parts_breaks os) (parts_breaks more) breaks) in
           let at : before_of b ≡ behind (before_of a) parts.subs parts.aggregates = ap before_of one.found ∙ before-with a parts.subs parts.aggregates in
           let rest = made_parts kind more (behind (before_of a) parts.subs parts.aggregates) in
           let all : both_parts parts rest ≡ made_parts kind (os ++ more) (before_of a) = sym (parts-append kind os more (before_of a)) in
@@ -130,7 +123,7 @@ pub node-made : (may_link : Bool) (gives : Gives) (assembled : List Expr → Exp
 node-made may_link gives assembled os wanted es old new made =
     record {
       makes = λ whole.
-          let built = made.makes (none-first (parts_breaks os) (unfit_break (first_unfit None os)) whole) in
+          let built = made.makes (front-none (parts_breaks os) (unfit_break (first_unfit None os)) whole) in
           record { expr = ap assembled built.exprs; found = built.found };
       unlinked = made.unlinked;
     }

@@ -7,15 +7,12 @@ use Rattle.name_meaning.specs.Meanings.{Surroundings, Part, means_at, seen_kind,
 use Rattle.name_meaning.specs.Operands.{Operand, united, united_from, seen_of, operand}
 use Rattle.name_meaning.specs.declared.need.Need.{Need}
 use Rattle.name_meaning.specs.declared.need.Need.TheVariants.{OfKind, Alike, Free}
+use Rattle.name_meaning.proofs.Uniting.{united-assoc}
 
 -- any is none on the right
 pub united-none : (kind : Option Kind) → united_kind kind None ≡ kind
 united-none None = refl
 united-none (Some kind) = refl
-
-pub united-associates : (a b c : Option Kind) → united_kind (united_kind a b) c ≡ united_kind a (united_kind b c)
-united-associates None b c = refl
-united-associates (Some kind) b c = refl
 
 first-united : (need : Need) (found : Option Kind) (rest : Option Kind) → united_from need found rest ≡ united_kind (united_from need found None) rest
 first-united (OfKind kind) found rest = refl
@@ -27,7 +24,7 @@ united-append [] more = refl
 united-append (o ∷ os) more =
     first-united o.need (seen_of o) (united (os ++ more))
     ∙ ap (united_kind (united_from o.need (seen_of o) None)) (united-append os more)
-    ∙ sym (united-associates (united_from o.need (seen_of o) None) (united os) (united more))
+    ∙ sym (united-assoc (united_from o.need (seen_of o) None) (united os) (united more))
     ∙ ap (λ (kind : Option Kind). united_kind kind (united more)) (sym (first-united o.need (seen_of o) (united os)))
 
 -- ---- single operands
@@ -39,7 +36,7 @@ one-alike here part = united-none (seen_kind (part.means here))
 pub next-alike : (so_far : Option Kind) (os : List Operand) (o : Operand) (before after : Option Kind)
     → before ≡ united_kind so_far (united os) → after ≡ united_kind before (united (o ∷ [])) → after ≡ united_kind so_far (united (os ++ o ∷ []))
 next-alike so_far os o before after first this =
-    this ∙ ap (λ (kind : Option Kind). united_kind kind (united (o ∷ []))) first ∙ united-associates so_far (united os) (united (o ∷ []))
+    this ∙ ap (λ (kind : Option Kind). united_kind kind (united (o ∷ []))) first ∙ united-assoc so_far (united os) (united (o ∷ []))
     ∙ ap (united_kind so_far) (sym (united-append os (o ∷ [])))
 
 -- of an arm the value alone is to be alike

@@ -2,10 +2,11 @@
 use Rattle.std.specs.Prelude.{◌≡◌, ℕ, ◌+◌, ◌<◌, ◌≤◌, List, [], ◌∷◌, ◌++◌, length, map, flat_map, slice_index_or, Option, None, Result, Ok, Err, IfOk}
 use Rattle.std.proofs.Common.{ap, sym, ◌∙◌, arith, take, get_or}
 use Rattle.std.proofs.lemmas.Grind.{flat_map-append}
-use Rattle.std.proofs.lemmas.List.{append-nil, length-map, length-take-le, map-append, take_more}
+use Rattle.std.proofs.lemmas.List.{append-nil, length-map, length-take-le, map-append}
 use Rattle.perm_catalog.specs.Contents.{Contents}
 use Rattle.perm_values.specs.declared.kind.Kind.{Kind}
 use Rattle.perm_values.specs.declared.kind.Kind.TheVariants as k
+use Rattle.perm_values.proofs.Lists.{map-taken}
 use Rattle.sql_tree.specs.declared.expression.ArmTree.{ArmTree}
 use Rattle.sql_tree.specs.declared.expression.ExprTree.{ExprTree}
 use Rattle.name_meaning.specs.Cores.{settle}
@@ -20,13 +21,6 @@ use Rattle.name_seen_parts.specs.declared.clauses.column.ShownColumn.{ShownColum
 use Rattle.name_made_nodes.proofs.Chains.{settle-more}
 use Rattle.name_made_nodes.proofs.FormsMade.{arm-is}
 use Rattle.name_made_nodes.proofs.United.{arm-alike, next-alike, one-alike, united-append}
-
-pub taken : {X : Type 0} (xs : List X) (i : ℕ) (x : X) → i < length xs → x ≡ get_or xs i x → take (i + 1) xs ≡ take i xs ++ x ∷ []
-taken xs i x within is = take_more xs i x within ∙ ap (λ y. take i xs ++ y ∷ []) (sym is)
-
-pub mapped : {X Y : Type 0} (f : X → Y) (xs : List X) (i : ℕ) (x : X) → i < length xs → x ≡ get_or xs i x
-    → map f (take (i + 1) xs) ≡ map f (take i xs) ++ f x ∷ []
-mapped f xs i x within is = ap (map f) (taken xs i x within is) ∙ map-append f (take i xs) (x ∷ [])
 
 -- ---- what operands are united to
 
@@ -47,7 +41,7 @@ pub alike-more : (c : Contents) (here : Surroundings) (need : Need) (trees : Lis
 alike-more c here need trees i tree so_far before after within is first this =
     next-alike so_far (map (operand here need) (map (part_of c) (take i trees))) (operand here need (part_of c tree)) before after first this
     ∙ ap (λ (os : List Operand). united_kind so_far (united os))
-    (sym (ap (map (operand here need)) (mapped (part_of c) trees i tree within is) ∙ map-append (operand here need) (map (part_of c) (take i trees)) (part_of c tree ∷ [])))
+    (sym (ap (map (operand here need)) (map-taken (part_of c) trees i tree within is) ∙ map-append (operand here need) (map (part_of c) (take i trees)) (part_of c tree ∷ [])))
 
 pub arms-more : (c : Contents) (here : Surroundings) (arms : List ArmTree) (i : ℕ) (arm : ArmTree) (before after : Option Kind)
     → i < length arms → arm ≡ get_or arms i arm
@@ -61,7 +55,7 @@ arms-more c here arms i arm before after within is first this =
     ∙ ap (united_kind (united so_far)) (sym (arm-alike here (arm_of c arm)))
     ∙ sym (united-append so_far (arm_operands here (arm_of c arm)))
     ∙ ap (λ (os : List Operand). united (so_far ++ os)) (sym (append-nil (arm_operands here (arm_of c arm))))
-    ∙ sym (ap (λ (parts : List ArmPart). united (flat_map (arm_operands here) parts)) (mapped (arm_of c) arms i arm within is)
+    ∙ sym (ap (λ (parts : List ArmPart). united (flat_map (arm_operands here) parts)) (map-taken (arm_of c) arms i arm within is)
     ∙ ap united (flat_map-append (arm_operands here) (map (arm_of c) (take i arms)) (arm_of c arm ∷ [])))
 
 -- ---- kinds
@@ -77,4 +71,4 @@ kinds-more columns i column wanted before after kind within is first this pushed
     ∙ ap (λ (known : Kind). settle (columns_of (take i columns)) wanted ++ known ∷ []) this
     ∙ ap (λ (n : ℕ). settle (columns_of (take i columns)) wanted ++ settled column.kind (slice_index_or wanted n k.Text) ∷ []) (sym size)
     ∙ sym (settle-more (columns_of (take i columns)) (column_of column) wanted)
-    ∙ ap (λ (columns : List OutColumn). settle columns wanted) (sym (mapped column_of columns i column within is))
+    ∙ ap (λ (columns : List OutColumn). settle columns wanted) (sym (map-taken column_of columns i column within is))

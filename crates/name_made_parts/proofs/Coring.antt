@@ -11,6 +11,7 @@ use Rattle.bag_algebra.specs.declared.query.Sublink.{Sublink}
 use Rattle.perm_catalog.specs.Contents.{Contents}
 use Rattle.perm_values.specs.declared.kind.Kind.{Kind}
 use Rattle.perm_values.specs.declared.kind.Kind.TheVariants as kind
+use Rattle.perm_values.proofs.Lists.{front-none, back-none}
 use Rattle.sql_tree.specs.declared.expression.ExprTree.{ExprTree}
 use Rattle.sql_tree.specs.declared.name.Name.{Name}
 use Rattle.sql_tree.specs.declared.query.SelectItem.{SelectItem}
@@ -34,7 +35,6 @@ use Rattle.name_made_nodes.specs.declared.cores.Clauses.{Clauses}
 use Rattle.name_made_nodes.specs.declared.cores.Condition.{Condition}
 use Rattle.name_made_nodes.specs.declared.within.Within.{Within}
 use Rattle.name_made_nodes.proofs.ItemLists.{more-listed}
-use Rattle.name_made_nodes.proofs.Parts.{none-first, none-second}
 use Rattle.name_made_parts.specs.Cored.{AreKept, Keeps, MakesClauses, MakesList, MakesSelected, condition_of, condition_part, core_over_items, having_part, in_groups, in_rows, items_meant, kept_of, select_parts, source_parts, sources_meant, own_breaks}
 use Rattle.name_made_parts.specs.Sources.{IsScope}
 use Rattle.name_made_parts.specs.declared.asked.cores.Kept.{Kept}
@@ -57,7 +57,7 @@ some-kept may_link m e found makes whole =
 
 pub own-whole : (here : Surroundings) (part : Option Part) → optional_breaks part (optional_meant here part) ≡ [] → own_breaks (optional_meant here part) ≡ []
 own-whole here None whole = refl
-own-whole here (Some part) whole = none-first _ _ whole
+own-whole here (Some part) whole = front-none _ _ whole
 
 over-is : (input : Query) (m : Option Meant) → condition_over input (option_map condition_of m) ≡ filtered input m
 over-is input None = refl
@@ -80,7 +80,7 @@ next-listed may_link ms more wanted q r a b c first second =
     } where
       all : items_breaks (ms ++ more) ≡ [] → MakesItems may_link (ms ++ more) wanted [] r a c
       all whole =
-          let size = first.wide (none-first (items_breaks ms) (items_breaks more) (apart ms more ∙ whole)) in
+          let size = first.wide (front-none (items_breaks ms) (items_breaks more) (apart ms more ∙ whole)) in
           let n : length q ≡ widths ms = omega (arith, size) in
           more-listed may_link ms more wanted [] q r a b c first (subst (λ (n : ℕ). MakesItems may_link more (drop n wanted) q r b c) n second)
 
@@ -109,11 +109,11 @@ over-grouped c around core breaks items wanted clauses input query makes from is
           let first = optional_breaks (condition_part c core) wm in
           let second = flat_map (group_break (scope_of items)) (out-Core core).groups in
           let third = optional_breaks (having_part c core) hm in
-          let all : first ++ second ++ third ++ items_breaks list ≡ [] = none-second breaks (first ++ second ++ third ++ items_breaks list) whole in
-          let front : first ++ second ++ third ≡ [] = none-first (first ++ second ++ third) (items_breaks list) all in
-          let of_list : items_breaks list ≡ [] = none-second (first ++ second ++ third) (items_breaks list) all in
-          let of_where = own-whole here (condition_part c core) (none-first first second (none-first (first ++ second) third front)) in
-          let of_having = own-whole there (having_part c core) (none-second (first ++ second) third front) in
+          let all : first ++ second ++ third ++ items_breaks list ≡ [] = back-none breaks (first ++ second ++ third ++ items_breaks list) whole in
+          let front : first ++ second ++ third ≡ [] = front-none (first ++ second ++ third) (items_breaks list) all in
+          let of_list : items_breaks list ≡ [] = back-none (first ++ second ++ third) (items_breaks list) all in
+          let of_where = own-whole here (condition_part c core) (front-none first second (front-none (first ++ second) third front)) in
+          let of_having = own-whole there (having_part c core) (back-none (first ++ second) third front) in
           let aggregates = (optional_built hm).aggregates in
           let listed = (makes.selected.listed of_having has_from).makes of_list in
           let made = made_items list (settle_known (option_map (named_from 1) (all_known list)) wanted) (behind nothing_before [] aggregates) in
@@ -168,7 +168,7 @@ unlooked : (words breaks : List Break) (a b : QueryMeant) (wanted : List Kind) (
     → MakesQuery (cond (is_whole breaks) a b) wanted query
 unlooked words [] a b wanted query broken is = absurd (broken refl)
 unlooked words (first ∷ more) a b wanted query broken is =
-    record { makes = λ whole. absurd (broken (none-second words (first ∷ more) (sym is ∙ whole))) }
+    record { makes = λ whole. absurd (broken (back-none words (first ∷ more) (sym is ∙ whole))) }
 
 -- where FROM breaks, nothing is asked
 pub core-none : (c : Contents) (around : Around) (core : Core) (wanted : List Kind) (query : Query) → ((sources_meant c around core).breaks ≡ [] → ⊥)

@@ -5,4 +5,3 @@ pub mod Querying
 pub mod Segmented
 pub mod Settling
 pub mod Sourcing
-pub mod Viewed

@@ -6,6 +6,7 @@ use Rattle.bag_algebra.specs.declared.query.Query.TheVariants.{Prov}
 use Rattle.perm_catalog.specs.Contents.{Contents}
 use Rattle.perm_values.specs.declared.key.Key.{Key}
 use Rattle.perm_values.specs.declared.kind.Kind.{Kind}
+use Rattle.perm_values.proofs.Lists.{front-none}
 use Rattle.sql_tree.specs.declared.query.Core.{Core}
 use Rattle.sql_tree.specs.declared.query.OrderTree.{OrderTree}
 use Rattle.sql_tree.specs.declared.query.QueryTree.{QueryTree}
@@ -18,10 +19,9 @@ use Rattle.name_meaning.specs.Queries.{SetStepPart, asks_provenance, keys_breaks
 use Rattle.name_meaning.specs.Trees.{core_of, query_of, set_of_tree, set_step_of}
 use Rattle.name_meaning.specs.declared.answer.Break.{Break}
 use Rattle.name_meaning.proofs.Equations.{token, querytree-record, settree-chain, settree-core, settree-paren, setstep-record}
+use Rattle.name_meaning.proofs.Settled.{settle-twice}
 use Rattle.name_made_nodes.specs.Chained.{Serves}
 use Rattle.name_made_nodes.specs.Makes.{MakesQuery}
-use Rattle.name_made_nodes.proofs.Chains.{settle-twice}
-use Rattle.name_made_nodes.proofs.Parts.{none-first}
 use Rattle.name_made_parts.specs.AskedColumns.{Settles}
 
 -- ---- the kinds of a chain
@@ -116,7 +116,7 @@ of-provenance around at body order limit wanted true keys made query asks keyed 
     rw asks
     (record {
       makes = λ whole.
-          let own = none-first m.breaks (keys_breaks m.columns order) whole in
+          let own = front-none m.breaks (keys_breaks m.columns order) whole in
           is ∙ ap Prov (keyed made own) ∙ ap (λ (q : Query). Prov (limited limit (keys_of m.columns order) q)) (makes.makes own);
     })
 of-provenance around at body order limit wanted false keys made query asks keyed makes is =
@@ -124,7 +124,7 @@ of-provenance around at body order limit wanted false keys made query asks keyed
     rw asks
     (record {
       makes = λ whole.
-          let own = none-first m.breaks (keys_breaks m.columns order) whole in
+          let own = front-none m.breaks (keys_breaks m.columns order) whole in
           is ∙ keyed made own ∙ ap (λ (q : Query). limited limit (keys_of m.columns order) q) (makes.makes own);
     })
 

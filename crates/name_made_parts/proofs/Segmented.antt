@@ -8,6 +8,7 @@ use Rattle.std.proofs.lemmas.List.{append-nil, drop_all, drop-append-le, length-
 use Rattle.name_meaning.specs.Scopes.{KnownColumn, ScopeItem, columns_from, numbered_columns, scope_of}
 use Rattle.name_meaning.specs.declared.scope.Scope.{Scope}
 use Rattle.name_meaning.specs.declared.scope.ScopeColumn.{ScopeColumn}
+use Rattle.name_meaning.proofs.Joins.{columns_from-append}
 use Rattle.name_made_parts.specs.Segments.{back_in, column_in, columns_in, name_in}
 use Rattle.name_made_parts.specs.Sources.{StandsIn}
 
@@ -85,16 +86,6 @@ none-behind first count number (item ∷ items) behind =
     (none-numbered first count number item.columns (back-behind first count number behind))
     ∙ none-behind first count (suc number) items rest
 
-from-append : (number : ℕ) (items more : List ScopeItem) → columns_from number (items ++ more) ≡ columns_from number items ++ columns_from (number + length items) more
-from-append number [] more =
-    let same : number ≡ number + 0 = omega arith in
-    ap (λ (n : ℕ). columns_from n more) same
-from-append number (item ∷ items) more =
-    let same : suc number + length items ≡ number + suc (length items) = omega arith in
-    ap (λ (rest : List ScopeColumn). numbered_columns number item.columns ++ rest) (from-append (suc number) items more)
-    ∙ ap (λ (n : ℕ). numbered_columns number item.columns ++ (columns_from (suc number) items ++ columns_from n more)) same
-    ∙ sym (append_assoc (numbered_columns number item.columns) (columns_from (suc number) items) (columns_from (number + suc (length items)) more))
-
 own-columns : (before own after : List ScopeItem) → columns_in (length before) (length own) (columns_from 0 (before ++ (own ++ after))) ≡ columns_from 0 own
 own-columns before own after =
     let first = length before in
@@ -103,11 +94,11 @@ own-columns before own after =
     let all : 0 + length own ≤ count = omega arith in
     let start : 0 + length before ≡ first + 0 = omega arith in
     let behind : first + count ≤ first + 0 + length own = omega arith in
-    ap (columns_in first count) (from-append 0 before (own ++ after))
+    ap (columns_in first count) (columns_from-append 0 before (own ++ after))
     ∙ columns-append first count (columns_from 0 before) (columns_from (0 + length before) (own ++ after))
     ∙ ap (λ (columns : List ScopeColumn). columns ++ columns_in first count (columns_from (0 + length before) (own ++ after))) (none-before first count 0 before none)
     ∙ ap (λ (n : ℕ). columns_in first count (columns_from n (own ++ after))) start
-    ∙ ap (columns_in first count) (from-append (first + 0) own after)
+    ∙ ap (columns_in first count) (columns_from-append (first + 0) own after)
     ∙ columns-append first count (columns_from (first + 0) own) (columns_from (first + 0 + length own) after)
     ∙ ap (λ (columns : List ScopeColumn). columns ++ columns_in first count (columns_from (first + 0 + length own) after)) (all-within first count 0 own all)
     ∙ ap (λ (columns : List ScopeColumn). columns_from 0 own ++ columns) (none-behind first count (first + 0 + length own) after behind)

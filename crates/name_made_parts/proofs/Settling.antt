@@ -6,6 +6,7 @@ use Rattle.std.proofs.Math.Seq.{take-append_seam, drop-append_seam}
 use Rattle.perm_catalog.specs.Contents.{Contents}
 use Rattle.perm_values.specs.declared.kind.Kind.{Kind}
 use Rattle.perm_values.specs.declared.kind.Kind.TheVariants as kind
+use Rattle.perm_values.proofs.Lists.{front-none, back-none}
 use Rattle.sql_tree.specs.declared.expression.ExprBody.TheOpen.{SelectItem-F}
 use Rattle.sql_tree.specs.declared.name.Name.{Name}
 use Rattle.sql_tree.specs.declared.query.SelectItem.{SelectItem, out-SelectItem}
@@ -18,7 +19,7 @@ use Rattle.name_meaning.specs.Trees.{item_of}
 use Rattle.name_meaning.specs.declared.answer.Break.{Break}
 use Rattle.name_meaning.specs.declared.scope.Scope.{Scope}
 use Rattle.name_meaning.proofs.Equations.{SelectItemFrame}
-use Rattle.name_made_nodes.proofs.Parts.{none-first, none-second}
+use Rattle.name_meaning.proofs.KindsOf.{with_known}
 use Rattle.name_made_parts.specs.Cored.{items_meant}
 use Rattle.name_meaning.proofs.Opened.{shown_item, opened_item}
 use Rattle.name_meaning.proofs.Settled.{settled-twice, settle_titles, settle-named, settle_titles-append}
@@ -87,13 +88,6 @@ pub record ListSettles (ms : List SelectMeant) : Type 0 where
   pub are : all_known ms ≡ Some titles
   pub same : (w : List Kind) (n : Before) → made_items ms (settle_titles titles w) n ≡ made_items ms w n
 
--- the columns of an item before those of the items behind it
-abbrev with_known : Option (List Titled) → Option (List Titled) → Option (List Titled)
-with_known columns rest = elim columns [
-  | None ↦ None
-  | Some known ↦ option_map (λ more. known ++ more) rest
-]
-
 both-settle : (m : SelectMeant) (ms : List SelectMeant) (item : IsSettling m) (list : ListSettles ms) (w : List Kind) (n : Before)
     → made_items (m ∷ ms) (settle_titles (item.titles ++ list.titles) w) n ≡ made_items (m ∷ ms) w n
 both-settle m ms item list w n =
@@ -120,8 +114,8 @@ list-settles c [] has_from scope here whole = record { titles = []; are = refl; 
 list-settles c (tree ∷ trees) has_from scope here whole =
     let m = (item_of c tree).means has_from scope here in
     let ms = items_meant has_from scope here (map (item_of c) trees) in
-    let item = item-settles c tree has_from scope here (none-first m.breaks (items_breaks ms) whole) in
-    let list = list-settles c trees has_from scope here (none-second m.breaks (items_breaks ms) whole) in
+    let item = item-settles c tree has_from scope here (front-none m.breaks (items_breaks ms) whole) in
+    let list = list-settles c trees has_from scope here (back-none m.breaks (items_breaks ms) whole) in
     record { titles = item.titles ++ list.titles; are = λ i. with_known (item.are i) (list.are i); same = λ w n. both-settle m ms item list w n }
 
 -- the list of a core is made at the kinds to which the wanted ones settle

@@ -1,7 +1,8 @@
 -- What FROM is made of, its parts made one after the other.
-use Rattle.std.specs.Prelude.{◌≡◌, ℕ, suc, ◌+◌, true, false, List, [], ◌∷◌, ◌++◌, length, map, Option, Some, None, option_map}
+use Rattle.std.specs.Prelude.{◌≡◌, ℕ, suc, ◌+◌, true, false, List, [], ◌∷◌, ◌++◌, length, Option, Some, None, option_map}
 use Rattle.std.specs.Option.{option_map_or}
 use Rattle.std.proofs.Common.{refl, ap, sym, subst, ◌∙◌, arith, append-nil, append_assoc, length-append}
+use Rattle.perm_values.proofs.Lists.{front-none, back-none}
 use Rattle.bag_algebra.specs.declared.query.JoinKind.TheVariants as join
 use Rattle.bag_algebra.specs.declared.query.Query.{Query}
 use Rattle.bag_algebra.specs.declared.query.Query.TheVariants.{Apply, Join}
@@ -11,21 +12,18 @@ use Rattle.sql_tree.specs.declared.name.Name.{Name}
 use Rattle.sql_tree.specs.declared.query.QueryTree.{QueryTree}
 use Rattle.sql_tree.specs.declared.source.FromItem.{FromItem}
 use Rattle.sql_tree.specs.declared.source.FromSource.TheVariants as source
-use Rattle.sql_tree.specs.declared.source.FromTree.{FromTree, out-FromTree}
-use Rattle.sql_tree.specs.declared.source.JoinStep.{JoinStep, out-JoinStep, roll-JoinStep}
-use Rattle.sql_tree.specs.declared.source.JoinWord.{JoinWord}
-use Rattle.sql_tree.specs.declared.expression.ExprTree.{ExprTree}
+use Rattle.sql_tree.specs.declared.source.JoinStep.{JoinStep, out-JoinStep}
 use Rattle.sql_tree.specs.declared.expression.ExprBody.TheViews.{roll-out-JoinStep}
 use Rattle.sql_tree.specs.declared.source.ScopeMark.{ScopeMark}
-use Rattle.name_meaning.specs.Froms.{FromMeant, FromPart, ItemMeant, JoinPart, Read, SourcePart, beside_from, both_known, first_item, from_all, from_more, in_on, item_meant, join_all, join_item, join_kind, label_of, marked, no_from, named as named_source, inner as inner_source, optional_breaks, on_meant, read_named, read_names, read_of, read_query, scope_items, scope_name, yes, joined_item, on_built, applied, beside_items, in_from}
+use Rattle.contribution.specs.Conjunctions.{always}
+use Rattle.name_meaning.specs.Froms.{FromMeant, FromPart, ItemMeant, JoinPart, Read, SourcePart, beside_from, both_known, first_item, from_all, from_more, in_on, item_meant, join_item, join_kind, label_of, marked, no_from, named as named_source, inner as inner_source, optional_breaks, on_meant, read_named, read_names, read_of, read_query, scope_items, scope_name, joined_item, on_built, applied, beside_items, in_from}
 use Rattle.name_meaning.specs.Meanings.{Around, Meant, query_means_at}
 use Rattle.name_meaning.specs.Scopes.{ScopeItem, scope_of}
-use Rattle.name_meaning.specs.Trees.{from_item_of, from_of, join_of, part_of, query_of, source_of}
+use Rattle.name_meaning.specs.Trees.{from_item_of, join_of, part_of, query_of, source_of}
 use Rattle.name_meaning.specs.declared.scope.Scope.{Scope}
-use Rattle.name_meaning.proofs.Equations.{token, fromitem-record, fromsource-inner, fromsource-named, joinstep-record-none, joinstep-record-some}
-use Rattle.name_meaning.proofs.Opened.{opened_from}
+use Rattle.name_meaning.proofs.Equations.{token, fromitem-record, fromsource-inner, fromsource-named}
 use Rattle.name_meaning.proofs.Lateral.{join-begins, join-items, join-lateral, join-plain, lateral_item, plain_item, plainly}
-use Rattle.name_made_nodes.proofs.Parts.{none-first, none-second}
+use Rattle.name_meaning.proofs.Opened.{join-record}
 use Rattle.name_made_parts.specs.Sources.{IsScope, JoinsMade, MakesBeside, MakesFrom, MakesJoin, MakesOn, MakesSource, SourcesMade, StandsIn, beside_left, text_of, join_on_kept, kept_or_yes}
 use Rattle.name_seen_parts.proofs.Scoping.{more-behind}
 use Rattle.name_made_parts.proofs.Coring.{own-whole}
@@ -98,13 +96,6 @@ one-item m items known = of-columns m.columns known where
 
 -- ---- joins
 
-pub joins-append : (outer : List Scope) (left : FromMeant) (steps : List JoinPart) (step : JoinPart)
-    → join_all outer left (steps ++ step ∷ [])
-    ≡ join_item outer (join_all outer left steps) step (joined_item outer (join_all outer left steps) step)
-joins-append outer left [] step = refl
-joins-append outer left (first ∷ steps) step =
-    joins-append outer (join_item outer left first (joined_item outer left first)) steps step
-
 -- one more join
 pub join-more : (outer : List Scope) (left : FromMeant) (step : JoinPart) (first joins : ℕ) (scope : Scope) (before after : Query)
     → JoinsMade left first scope before joins → MakesJoin outer step first (joins + 1) scope before after
@@ -145,8 +136,8 @@ plainly-made outer left step first count scope before right after kept on item i
     let own : known ≡ Some stands.own = stands.known in
     let breaks : optional_breaks step.condition (on_meant outer (Some stands.own) step.condition) ≡ [] =
     subst (λ (items : Option (List ScopeItem)). optional_breaks step.condition (on_meant outer items step.condition) ≡ []) own
-    (none-second (left.breaks ++ m.breaks) (optional_breaks step.condition sees) whole) in
-    let made = item (none-second left.breaks m.breaks (none-first (left.breaks ++ m.breaks) (optional_breaks step.condition sees) whole)) in
+    (back-none (left.breaks ++ m.breaks) (optional_breaks step.condition sees) whole) in
+    let made = item (back-none left.breaks m.breaks (front-none (left.breaks ++ m.breaks) (optional_breaks step.condition sees) whole)) in
     let stands_own : StandsIn (Some stands.own) first scope =
     record { before = stands.before; own = stands.own; after = stands.after; known = refl; scope_is = stands.scope_is; at = stands.at } in
     let keeps : AreKept sees kept =
@@ -180,7 +171,7 @@ applied-made outer left step first before scope whole right after item is counts
     subst (λ (items : Option (List ScopeItem)). MakesSource (step.item.means (beside_items items outer) left.names) right) (sym own.known)
     (item own.own stands_own (counts own.own own.known) left.names) in
     is ∙ ap (λ (q : Query). Apply (join_kind step.word) q right) same
-    ∙ ap (Apply (join_kind step.word) left.query) (made (none-second left.breaks m.breaks none))
+    ∙ ap (Apply (join_kind step.word) left.query) (made (back-none left.breaks m.breaks none))
 
 -- a lateral subquery beside what is made
 pub lateral-made : (outer : List Scope) (step : JoinPart) (first before : ℕ) (scope : Scope) (whole right after : Query)
@@ -227,9 +218,9 @@ source-more outer (first ∷ parts) part scope before next after count joins so_
           let none : left.breaks ++ right.breaks ≡ [] = subst (λ (m : FromMeant). m.breaks ≡ []) is_beside whole in
           let both : StandsIn (both_known left.items right.items) 0 scope = subst (λ (m : FromMeant). StandsIn m.items 0 scope) is_beside stands in
           ap Some (is ∙ ap (λ (left : Option Query). beside_left left next)
-          (so_far.makes (none-first left.breaks right.breaks none) (stands-left left.items right.items 0 scope both))
-          ∙ ap (λ (q : Query). Join join.Inner left.query q yes [])
-          (makes left.names (none-second left.breaks right.breaks none)
+          (so_far.makes (front-none left.breaks right.breaks none) (stands-left left.items right.items 0 scope both))
+          ∙ ap (λ (q : Query). Join join.Inner left.query q always [])
+          (makes left.names (back-none left.breaks right.breaks none)
           (subst (λ (n : ℕ). StandsIn right.items n scope) start (stands-right left.items right.items 0 count scope so_far.counts both)))
           ∙ ap (λ (m : FromMeant). m.query) (sym is_beside));
       counts = λ items known.
@@ -247,21 +238,6 @@ sources-made outer (part ∷ parts) scope made count query so_far is whole stand
 
 -- ---- trees
 
-pub from-fields : (c : Contents) (tree : FromTree) (outer : List Scope) (earlier : List (List ℕ))
-    → (from_of c tree).means outer earlier
-    ≡ join_all outer (first_item earlier ((from_item_of c (out-FromTree tree).first).means (in_from outer) earlier)) (map (join_of c) (out-FromTree tree).joins)
-from-fields c tree outer earlier = ap (λ (part : FromPart). part.means outer earlier) (opened_from c tree)
-
-join-record : (c : Contents) (word : JoinWord) (item : FromItem) (condition : Option ExprTree)
-    → join_of c (roll-JoinStep (record { word = word; item = item; condition = condition })) ≡ record {
-      word = word;
-      item = from_item_of c item;
-      condition = option_map (part_of c) condition;
-    }
-unfolding token
-join-record c word item None = joinstep-record-none c word item
-join-record c word item (Some condition) = joinstep-record-some c word item condition
-
 pub join-fields : (c : Contents) (tree : JoinStep) → join_of c tree ≡ record {
   word = (out-JoinStep tree).word;
   item = from_item_of c (out-JoinStep tree).item;
@@ -275,7 +251,7 @@ join-fields c tree =
 item-so : (at : ℕ) (mark : ScopeMark) (earlier : List (List ℕ)) (name label : List ℕ) (read : Read) (made : Query)
     → (read.breaks ≡ [] → made ≡ marked mark label (read_names read) read) → MakesSource (item_meant at mark earlier name label read) made
 item-so at mark earlier name label read made makes whole =
-    makes (none-first read.breaks _ (none-first _ _ whole))
+    makes (front-none read.breaks _ (front-none _ _ whole))
 
 pub item-named : (c : Contents) (around : Around) (item : FromItem) (name : Name) (made : Query) → item.source ≡ source.Named name
     → ((read_named c name).breaks ≡ [] → made ≡ marked item.mark name.text (read_names (read_named c name)) (read_named c name))

@@ -1,14 +1,9 @@
 -- What the first pass shows of a query, as the second takes it.
-use Rattle.std.specs.Prelude.{◌≡◌, List, [], ◌∷◌, Option, None}
+use Rattle.std.specs.Prelude.{◌≡◌, List}
 use Rattle.perm_values.specs.declared.kind.Kind.{Kind}
 use Rattle.name_meaning.specs.Cores.{settle_known}
 use Rattle.name_meaning.specs.Meanings.{QueryMeant}
 use Rattle.name_made_nodes.specs.Chained.{Serves}
-use Rattle.name_seen_parts.specs.declared.clauses.column.ShownColumn.{ShownColumn}
-
-abbrev pub kind_of_first : List ShownColumn → Option Kind
-kind_of_first [] = None
-kind_of_first (column ∷ columns) = column.kind
 
 -- the kinds of its columns, where those of any take the wanted ones
 pub record Settles (m : QueryMeant) (wanted kinds : List Kind) : Type 0 where

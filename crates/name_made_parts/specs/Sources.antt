@@ -9,7 +9,8 @@ use Rattle.perm_catalog.specs.Changes.{view_named}
 use Rattle.perm_catalog.specs.Contents.{Contents}
 use Rattle.sql_tree.specs.declared.name.Name.{Name}
 use Rattle.sql_tree.specs.declared.source.FromTree.{FromTree, out-FromTree}
-use Rattle.name_meaning.specs.Froms.{FromItemPart, FromMeant, FromPart, ItemMeant, JoinPart, beside_items, from_all, join_item, on_meant, Read, read_names, read_nothing, read_query, read_view, yes, joined_item}
+use Rattle.contribution.specs.Conjunctions.{always}
+use Rattle.name_meaning.specs.Froms.{FromItemPart, FromMeant, FromPart, ItemMeant, JoinPart, beside_items, from_all, join_item, on_meant, Read, read_names, read_nothing, read_query, read_view, joined_item}
 use Rattle.name_meaning.specs.Meanings.{Part, QueryMeant}
 use Rattle.name_meaning.specs.Scopes.{ScopeItem, scope_of}
 use Rattle.name_meaning.specs.declared.scope.Scope.{Scope}
@@ -31,7 +32,7 @@ join_count tree = length (out-FromTree tree).joins
 -- what is behind a comma, beside what is before it
 abbrev pub beside_left : Option Query → Query → Query
 beside_left None right = right
-beside_left (Some left) right = Join join.Inner left right yes []
+beside_left (Some left) right = Join join.Inner left right always []
 
 -- what the query of a subquery shows, if it breaks nothing
 pub record IsShown (m : QueryMeant) (shown : ShownNames) : Type 0 where
@@ -77,7 +78,7 @@ MakesOn outer condition first count scope kept = (items : List ScopeItem) → St
 
 -- a condition that is kept; TRUE, if there is none
 abbrev pub kept_or_yes : Option Condition → Condition
-kept_or_yes None = record { expr = yes; subs = [] }
+kept_or_yes None = record { expr = always; subs = [] }
 kept_or_yes (Some condition) = condition
 
 abbrev pub join_on_kept : JoinKind → Query → Query → Kept → Query

@@ -5,6 +5,7 @@ use Rattle.std.proofs.lemmas.List.Elements.{All-cons}
 use Rattle.std.specs.Option.{option_map_or}
 use Rattle.perm_values.specs.declared.kind.Kind.{Kind}
 use Rattle.perm_values.specs.declared.kind.Kind.TheVariants.{Integer, Text, Boolean}
+use Rattle.perm_values.proofs.Lists.{front-none, back-none}
 use Rattle.bag_algebra.specs.built.Forms.{subs_kinds}
 use Rattle.bag_algebra.specs.WellFormed.{HasKind, column_kind, aggr_form}
 use Rattle.bag_algebra.specs.declared.expr.Expr.{Expr}
@@ -22,7 +23,7 @@ use Rattle.name_meaning.proofs.FormedParts.{none-formed}
 use Rattle.name_meaning.proofs.GoodMeant.{GoodMeant}
 use Rattle.name_meaning.proofs.Needs.{settled-of_kind}
 use Rattle.name_meaning.specs.declared.rule.Rule.TheVariants as rule
-use Rattle.name_meaning.proofs.Every.{front-none, back-none, whole-kind, unbroken}
+use Rattle.name_meaning.proofs.Every.{whole-kind, unbroken}
 
 own-column : (rows : List (List Kind)) (place : ℕ) (kind : Kind) → slice_get (own_row rows) place ≡ Some kind → column_kind rows 0 place ≡ Some kind
 own-column [] place kind e = e

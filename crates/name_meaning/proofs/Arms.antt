@@ -10,6 +10,7 @@ use Rattle.bag_algebra.specs.built.Forms.{AllStepsHave, AllArmsHave}
 use Rattle.bag_algebra.specs.WellFormed.{HasKind, is_additive}
 use Rattle.bag_algebra.specs.declared.expr.Expr.{Expr}
 use Rattle.sql_tree.specs.Regular.{IsFilled, level_of}
+use Rattle.bag_algebra.proofs.Truths.{left-false, right-false}
 use Rattle.name_meaning.specs.Expressions.{StepPart, ArmPart, first_of, steps_made, chain_made, arms_made, rest_made, null_meant, step_operand, first_need, chain_gives, arm_operands, else_operand, case_made, case_meant, arm_parts, optional_part}
 use Rattle.name_meaning.specs.Meanings.{Surroundings, Part}
 use Rattle.name_meaning.specs.Operands.{Operand, operand, node, need_of}
@@ -20,7 +21,6 @@ use Rattle.name_meaning.proofs.ExpressionForms.{need-arith, gives-arith, is_sum_
 use Rattle.name_meaning.proofs.GoodMeant.{GoodMeant, GoodPart, GoodOperand, IsPlain, PlainOperand, HaveKinds, good-node, plain-node}
 use Rattle.name_meaning.proofs.Holding.{AreOfLevel, chain-holds, case-holds}
 use Rattle.name_meaning.proofs.Needs.{taken, taken_kinds}
-use Rattle.name_meaning.proofs.Every.{left-false, right-false}
 
 -- ---- literals
 

@@ -12,6 +12,7 @@ use Rattle.bag_algebra.specs.declared.expr.Expr.{Expr}
 use Rattle.bag_algebra.specs.declared.expr.Expr.TheVariants.{Lit, Op, IsNull, IsTruth, Same}
 use Rattle.sql_tree.specs.Regular.{IsConnective, IsFilled, IsSeveral, has_argument}
 use Rattle.sql_tree.specs.declared.expression.ExprBody.TheOpen.{ExprBody-F}
+use Rattle.bag_algebra.proofs.Truths.{left-false}
 use Rattle.name_meaning.proofs.Equations.{ExprBodyFrame}
 use Rattle.name_meaning.specs.Expressions.{body_step, known, first_of, second_of, negated_if, times, in_kind}
 use Rattle.name_meaning.specs.Meanings.{Surroundings, Around, QueryPart}
@@ -27,7 +28,6 @@ use Rattle.name_meaning.proofs.FormedParts.{formed-none}
 use Rattle.name_meaning.proofs.ExpressionForms.{plain-alike, good-nots, good-signs, good-logic, good-compared, good-like, good-between, good-in_list, good-coalesce, good-null_if, good-is_null, good-is_truth, good-is_distinct}
 use Rattle.name_meaning.proofs.GoodMeant.{GoodMeant, GoodPart, IsPlain}
 use Rattle.name_meaning.proofs.Sublinks.{GoodQuery, good-exists, good-scalar, good-tested, good-if_standing, plain-if_standing, plain-tested}
-use Rattle.name_meaning.proofs.Every.{left-false}
 
 abbrev pub GoodQueryPart : QueryPart → Type 0
 GoodQueryPart query = (around : Around) → GoodQuery around (query.means around)

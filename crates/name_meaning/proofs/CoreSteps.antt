@@ -4,6 +4,7 @@ use Rattle.std.proofs.Common.{refl, ap, sym, ◌∙◌, subst, true≢false}
 use Rattle.std.specs.List.{AllByRecursion as Every}
 use Rattle.std.specs.Option.{option_map_or}
 use Rattle.perm_values.specs.declared.kind.Kind.{Kind}
+use Rattle.perm_values.proofs.Lists.{back-none}
 use Rattle.bag_algebra.specs.Kinds.{kinds_of}
 use Rattle.bag_algebra.specs.WellFormed.{WellFormed}
 use Rattle.sql_tree.specs.declared.name.ColRef.{ColRef}
@@ -17,7 +18,7 @@ use Rattle.name_meaning.proofs.Arms.{GoodOptional}
 use Rattle.name_meaning.proofs.Cores.{formed-clauses}
 use Rattle.name_meaning.proofs.Froms.{FormedFrom, GoodFrom, scope-holds}
 use Rattle.name_meaning.proofs.Items.{GoodItem}
-use Rattle.name_meaning.proofs.Every.{back-none, whole-none, none-whole}
+use Rattle.name_meaning.proofs.Every.{whole-none, none-whole}
 
 abbrev pub FormedQuery : Around → QueryMeant → Type 0
 FormedQuery around m = m.breaks ≡ [] → (rows : List (List Kind)) → RowsHold around.outer rows → (wanted : List Kind) → WellFormed rows (m.make wanted)

@@ -3,16 +3,20 @@ use Rattle.std.specs.Prelude.{◌≡◌, ⊤, ℕ, ◌+◌, Bool, true, false, c
 use Rattle.std.proofs.Common.{refl, ap, sym, ◌∙◌, subst, true≢false}
 use Rattle.std.proofs.lemmas.List.Elements.{All-append}
 use Rattle.std.specs.List.{list_any, AllByRecursion as Every}
+use Rattle.perm_values.specs.Rows.{PlacesWithin}
 use Rattle.perm_values.specs.declared.kind.Kind.{Kind}
 use Rattle.perm_values.specs.declared.kind.Kind.TheVariants.{Boolean}
+use Rattle.perm_values.proofs.Lists.{front-none, back-none}
+use Rattle.perm_values.proofs.Steps.{by}
 use Rattle.bag_algebra.specs.built.Openings.{kinds_of-Filter, kinds_of-Aggregate}
 use Rattle.bag_algebra.specs.built.Forms.{subs_kinds, WellFormed-Filter, WellFormed-Project, WellFormed-Distinct, WellFormed-Aggregate}
-use Rattle.bag_algebra.specs.Kinds.{kinds_of, kinds_in, width_of}
-use Rattle.bag_algebra.specs.WellFormed.{WellFormed, PlacesIn, AggregatesForm, aggr_form}
+use Rattle.bag_algebra.specs.Kinds.{kinds_of, kinds_in, width_of, aggregate_kinds}
+use Rattle.bag_algebra.specs.WellFormed.{WellFormed, AggregatesForm, aggr_form}
 use Rattle.bag_algebra.specs.declared.query.Aggr.{Aggr}
 use Rattle.bag_algebra.specs.declared.query.Query.{Query}
 use Rattle.bag_algebra.specs.declared.query.Query.TheVariants.{Project, Aggregate}
 use Rattle.sql_tree.specs.declared.name.ColRef.{ColRef}
+use Rattle.bag_algebra.proofs.Truths.{left-false, right-false}
 use Rattle.name_meaning.specs.Cores.{settle_known, optional_built, group_break, group_place, group_scope, is_grouped, filtered, distinct_if, core_query, Clauses, list_columns, before_list, clauses_query, core_clauses, clause_breaks}
 use Rattle.name_meaning.specs.Froms.{FromMeant, condition_breaks, in_clause, optional_meant, optional_breaks}
 use Rattle.name_meaning.specs.Items.{Made, SelectPart, made_items, items_breaks}
@@ -22,7 +26,7 @@ use Rattle.name_meaning.specs.Sublinks.{nothing_before}
 use Rattle.name_meaning.specs.declared.answer.Break.{Break}
 use Rattle.name_meaning.specs.declared.scope.Scope.{Scope}
 use Rattle.name_meaning.specs.laws.Formed.{IsFormedExpr}
-use Rattle.name_meaning.specs.laws.Standing.{HoldsScope, RowsHold, aggregate_kinds, AggregatesStand}
+use Rattle.name_meaning.specs.laws.Standing.{HoldsScope, RowsHold, AggregatesStand}
 use Rattle.name_meaning.proofs.Arms.{GoodOptional}
 use Rattle.name_meaning.proofs.FormedParts.{none-formed}
 use Rattle.name_meaning.proofs.GoodMeant.{GoodMeant}
@@ -31,10 +35,7 @@ use Rattle.name_meaning.proofs.Items.{IsFormedList, GoodItem, good-list, plain-l
 use Rattle.name_meaning.proofs.Needs.{settled-of_kind}
 use Rattle.name_meaning.proofs.Standing.{stand-whole, aggregates-append}
 use Rattle.name_meaning.specs.declared.rule.Rule.TheVariants as rule
-use Rattle.name_meaning.proofs.Every.{front-none, back-none, whole-kind, left-false, right-false, unbroken}
-
-pub by : {A B : Type 0} → A ≡ B → A → B
-by e h = subst (λ (X : Type 0). X) e h
+use Rattle.name_meaning.proofs.Every.{whole-kind, unbroken}
 
 -- ---- conditions
 
@@ -131,7 +132,7 @@ module _ (outer : List Scope) (rows : List (List Kind)) (own : Scope) (input : Q
 
   -- a grouped core
   pub grouped-core : (condition : Option Meant) (groups : List ℕ) (having : Option Meant) (list : Made) (is_distinct : Bool)
-      → FormedOptional own_here condition → PlacesIn (width_of input) groups
+      → FormedOptional own_here condition → PlacesWithin (width_of input) groups
       → FormedOptional (in_clause (record own { groups = Some groups }) outer true) having
       → IsFormedList (in_clause (record own { groups = Some groups }) outer true)
       (record { subs = 0; aggregates = 0 + length (optional_built having).aggregates }) list
@@ -149,7 +150,7 @@ module _ (outer : List Scope) (rows : List (List Kind)) (own : Scope) (input : Q
       let over = λ (aggregate : Aggr). aggr_form aggregate.function aggregate.argument (kinds_of seen ∷ rows) aggregate.kind in
       let aggregated : WellFormed rows rows_made = by (sym (WellFormed-Aggregate rows seen groups aggregates)) (record {
         input = where-formed condition formed;
-        groups = subst (λ ks. PlacesIn (length ks) groups) (sym kinds) within;
+        groups = subst (λ ks. PlacesWithin (length ks) groups) (sym kinds) within;
         aggregates = All-append over before list.aggregates
             (arguments-formed here having (kinds_of seen ∷ rows) has (own_holds, core.around))
             (listed.aggregates_formed (kinds_of seen ∷ rows) (own_holds, core.around));

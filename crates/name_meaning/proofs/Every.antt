@@ -1,18 +1,11 @@
 -- What holds of each of a list, and lists that are empty in all their parts.
-use Rattle.std.specs.Prelude.{◌≡◌, ⊤, true, cond, None, List, [], ◌∷◌, ◌++◌, map, Bool, false, ◌||◌, ℕ, not}
+use Rattle.std.specs.Prelude.{◌≡◌, true, cond, None, List, [], ◌∷◌, map, Bool, false, ℕ, not}
 use Rattle.std.proofs.Common.{refl, ap, sym, true≢false}
 use Rattle.std.specs.List.{flat_map}
+use Rattle.contribution.proofs.WhereGood.{Every, every-append}
 use Rattle.name_meaning.specs.Meanings.{Meant, is_whole, seen_kind, broken_if}
 use Rattle.name_meaning.specs.declared.answer.Break.{Break}
 use Rattle.name_meaning.specs.declared.rule.Rule.{Rule}
-
-abbrev pub Every : {X : Type 0} → (X → Type 0) → List X → Type 0
-Every P [] = ⊤
-Every P (x ∷ xs) = P x × Every P xs
-
-pub every-append : {X : Type 0} (P : X → Type 0) (xs ys : List X) → Every P xs → Every P ys → Every P (xs ++ ys)
-every-append P [] ys h k = k
-every-append P (x ∷ xs) ys h k = (h.0, every-append P xs ys h.1 k)
 
 pub every-map : {X Y : Type 0} (P : X → Type 0) (Q : Y → Type 0) (f : X → Y) (keep : (x : X) → P x → Q (f x)) (xs : List X)
     → Every P xs → Every Q (map f xs)
@@ -28,14 +21,6 @@ every-flat_map P Q f keep (x ∷ xs) h = every-append Q (f x) (flat_map f xs) (k
 pub every-proved : {X Y : Type 0} (P : Y → Type 0) (f : X → Y) (xs : List ((x : X) × P (f x))) → Every P (map f (map (λ e. e.0) xs))
 every-proved P f [] = tt
 every-proved P f (e ∷ xs) = (e.1, every-proved P f xs)
-
-pub front-none : {X : Type 0} (xs ys : List X) → xs ++ ys ≡ [] → xs ≡ []
-front-none [] ys e = refl
-front-none (x ∷ xs) ys e = cc e
-
-pub back-none : {X : Type 0} (xs ys : List X) → xs ++ ys ≡ [] → ys ≡ []
-back-none [] ys e = e
-back-none (x ∷ xs) ys e = cc e
 
 -- ---- what breaks nothing
 
@@ -56,13 +41,3 @@ unbroken false which at e = cc e
 pub unbroken-not : (b : Bool) (which : Rule) (at : ℕ) → broken_if b which at ≡ [] → b ≡ false
 unbroken-not true which at e = cc e
 unbroken-not false which at e = refl
-
--- ---- what is false whole is false in its parts
-
-pub left-false : (a b : Bool) → (a || b) ≡ false → a ≡ false
-left-false true b h = absurd (true≢false h)
-left-false false b h = refl
-
-pub right-false : (a b : Bool) → (a || b) ≡ false → b ≡ false
-right-false true b h = absurd (true≢false h)
-right-false false b h = h

@@ -16,6 +16,7 @@ use Rattle.bag_algebra.specs.WellFormed.{HasKind, is_additive}
 use Rattle.bag_algebra.specs.declared.expr.Expr.{Expr}
 use Rattle.bag_algebra.specs.declared.expr.Expr.TheVariants.{Op, IsNull, IsTruth, Same}
 use Rattle.sql_tree.specs.Regular.{IsConnective, IsFilled, IsSeveral, level_of}
+use Rattle.bag_algebra.proofs.Truths.{left-false, right-false}
 use Rattle.name_meaning.specs.Expressions.{first_of, second_of, negated_if, times}
 use Rattle.name_meaning.specs.Meanings.{Surroundings, Part, settled}
 use Rattle.name_meaning.specs.Operands.{operand, node, need_of, gives_of, operated}
@@ -26,7 +27,6 @@ use Rattle.name_meaning.specs.declared.need.Need.TheVariants.{OfKind as of_kind,
 use Rattle.name_meaning.proofs.GoodMeant.{GoodMeant, GoodPart, GoodOperand, IsPlain, PlainOperand, HaveKinds, good-node, plain-node, given}
 use Rattle.name_meaning.proofs.Holding.{op-holds, not-holds, negate-holds, negated-holds, times-holds, is_null-holds, is_truth-holds, same-holds, first-has, second-has, all-taken}
 use Rattle.name_meaning.proofs.Needs.{taken, taken_kinds}
-use Rattle.name_meaning.proofs.Every.{left-false, right-false}
 
 -- ---- the table of operators
 

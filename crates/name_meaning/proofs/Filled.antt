@@ -21,6 +21,7 @@ use Rattle.sql_tree.specs.declared.expression.ExprBody.TheOpen.{SelectItem-F}
 use Rattle.sql_tree.specs.declared.name.ColRef.{ColRef}
 use Rattle.sql_tree.specs.declared.name.Name.{Name}
 use Rattle.sql_tree.specs.declared.query.OrderTree.{OrderTree}
+use Rattle.contribution.proofs.WhereGood.{every-append}
 use Rattle.name_meaning.proofs.Equations.{SelectItemFrame}
 use Rattle.name_meaning.specs.Cores.{BodyPart, core_over, core_unlooked, core_seen, group_scope, has_some, word_breaks}
 use Rattle.name_meaning.specs.Froms.{FromItemPart, FromMeant, FromPart, ItemMeant, JoinPart, SourcePart, named as named_source, inner as inner_source, beside_from, both_known, applied, first_item, from_all, from_more, join_all, join_item, joined, joined_around, joined_item, on_meant, scope_items, named_columns, read_named, read_nothing, read_of, read_table, read_view, settled_columns, in_clause}
@@ -31,7 +32,6 @@ use Rattle.name_meaning.specs.Scopes.{KnownColumn, Placed, ScopeItem, columns_fr
 use Rattle.name_meaning.specs.declared.answer.Break.{Break}
 use Rattle.name_meaning.specs.declared.scope.Scope.{Scope}
 use Rattle.name_meaning.specs.declared.scope.ScopeColumn.{ScopeColumn}
-use Rattle.name_meaning.proofs.Every.{every-append}
 use Rattle.name_meaning.proofs.KindsOf.{with_known}
 
 -- ---- lists

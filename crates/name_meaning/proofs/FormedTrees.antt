@@ -33,7 +33,7 @@ use Rattle.name_meaning.proofs.Filled.{filled-map}
 use Rattle.name_meaning.proofs.Froms.{GoodSource, GoodFromItem, GoodFromPart, GoodJoin, good-read_of, good-item_meant, good-first, good-join_all, good-from_all}
 use Rattle.name_meaning.proofs.GoodMeant.{GoodMeant, GoodPart, IsPlain}
 use Rattle.name_meaning.proofs.Items.{GoodItem, good-star, plain-star, good-table_star, plain-table_star, good-value, plain-value}
-use Rattle.name_meaning.proofs.Opened.{Layer_core, Layer_join, shown_body, shown_item, shown_set, shown_source, shown_core, shown_join, opened_body, opened_item, opened_set, opened_source, opened_core, opened_from, opened_join, opened_expr, opened_arm, opened_step, opened_query, opened_set_step, opened_from_item}
+use Rattle.name_meaning.proofs.Opened.{CoreLayer, JoinLayer, shown_body, shown_item, shown_set, shown_source, shown_core, shown_join, opened_body, opened_item, opened_set, opened_source, opened_core, opened_from, opened_join, opened_expr, opened_arm, opened_step, opened_query, opened_set_step, opened_from_item}
 use Rattle.name_meaning.proofs.Queries.{GoodBody, GoodBodyMeant, GoodQueryMeant, good-chain, good-query_seen}
 
 -- ---- lists
@@ -74,17 +74,17 @@ module _ (c : Contents) (sound : IsSound c) where
     places = (good around).places;
   }
 
-  core-condition : (layer : Layer_core) (o : Option ExprTree) → ((part : ExprTree) → o ≡ Some part → GoodPart (part_of c part))
+  core-condition : (layer : CoreLayer) (o : Option ExprTree) → ((part : ExprTree) → o ≡ Some part → GoodPart (part_of c part))
       → GoodOptional (shown_core c (record layer { condition = o })).condition
   core-condition layer None h = tt
   core-condition layer (Some part) h = h part refl
 
-  core-having : (layer : Layer_core) (o : Option ExprTree) → ((part : ExprTree) → o ≡ Some part → GoodPart (part_of c part))
+  core-having : (layer : CoreLayer) (o : Option ExprTree) → ((part : ExprTree) → o ≡ Some part → GoodPart (part_of c part))
       → GoodOptional (shown_core c (record layer { having = o })).having
   core-having layer None h = tt
   core-having layer (Some part) h = h part refl
 
-  join-condition : (layer : Layer_join) (o : Option ExprTree) → ((part : ExprTree) → o ≡ Some part → GoodPart (part_of c part))
+  join-condition : (layer : JoinLayer) (o : Option ExprTree) → ((part : ExprTree) → o ≡ Some part → GoodPart (part_of c part))
       → GoodOptional (shown_join c (record layer { condition = o })).condition
   join-condition layer None h = tt
   join-condition layer (Some part) h = h part refl

@@ -5,6 +5,7 @@ use Rattle.std.proofs.lemmas.Option.{none-some, same_Some}
 use Rattle.std.specs.List.{enumerate_from, AllByRecursion as Every}
 use Rattle.std.specs.Option.{option_map_or}
 use Rattle.perm_values.specs.declared.kind.Kind.{Kind}
+use Rattle.perm_values.proofs.Lists.{front-none}
 use Rattle.bag_algebra.specs.WellFormed.{HasKind, column_kind}
 use Rattle.bag_algebra.specs.declared.expr.Expr.TheVariants.{Col}
 use Rattle.sql_tree.specs.declared.name.ColRef.{ColRef}
@@ -21,7 +22,6 @@ use Rattle.name_meaning.specs.laws.Standing.{HoldsScope, RowsHold}
 use Rattle.name_meaning.proofs.FormedParts.{formed-none}
 use Rattle.name_meaning.proofs.GoodMeant.{GoodMeant, IsPlain}
 use Rattle.name_meaning.specs.declared.rule.Rule.TheVariants as rule
-use Rattle.name_meaning.proofs.Every.{front-none}
 
 -- ---- columns with their places
 

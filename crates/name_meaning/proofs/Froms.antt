@@ -8,13 +8,16 @@ use Rattle.std.proofs.lemmas.List.Quantifiers.{position-Some}
 use Rattle.std.proofs.lemmas.Option.{same_Some, slice_get-map}
 use Rattle.std.specs.List.{list_any, count_by, range_with_len, AllByRecursion as Every}
 use Rattle.std.specs.Option.{option_map_or}
+use Rattle.perm_values.specs.Rows.{PlacesWithin}
 use Rattle.perm_values.specs.declared.kind.Kind.{Kind}
 use Rattle.perm_values.specs.declared.kind.Kind.TheVariants.{Boolean}
+use Rattle.perm_values.proofs.Lists.{front-none, back-none}
+use Rattle.perm_values.proofs.Steps.{by}
 use Rattle.bag_algebra.specs.Bags.{Bag}
 use Rattle.bag_algebra.specs.built.Openings.{kinds_of-Join, kinds_of-Apply}
 use Rattle.bag_algebra.specs.built.Forms.{subs_kinds, WellFormed-Base, WellFormed-Join, WellFormed-Apply}
 use Rattle.bag_algebra.specs.Kinds.{kinds_of, width_of}
-use Rattle.bag_algebra.specs.WellFormed.{HasKind, WellFormed, PlacesIn, label_width, is_dependent}
+use Rattle.bag_algebra.specs.WellFormed.{HasKind, WellFormed, label_width, is_dependent}
 use Rattle.bag_algebra.specs.declared.expr.Expr.{Expr}
 use Rattle.bag_algebra.specs.declared.query.JoinKind.{JoinKind}
 use Rattle.bag_algebra.specs.declared.query.JoinKind.TheVariants as join
@@ -23,6 +26,7 @@ use Rattle.bag_algebra.specs.declared.query.Label.TheVariants.{Relation, Externa
 use Rattle.bag_algebra.specs.declared.query.Query.{Query}
 use Rattle.bag_algebra.specs.declared.query.Query.TheVariants.{Table, Base, Join}
 use Rattle.contribution.proofs.LongerKinds.{longer-names, well_formed-longer}
+use Rattle.contribution.specs.Conjunctions.{always}
 use Rattle.contribution.specs.Longer.{more_lists}
 use Rattle.perm_catalog.specs.Changes.{table_named, view_named}
 use Rattle.perm_catalog.specs.Columns.{column_kinds}
@@ -39,7 +43,7 @@ use Rattle.sql_tree.specs.declared.source.JoinWord.{JoinWord}
 use Rattle.sql_tree.specs.declared.source.JoinWord.TheVariants as word
 use Rattle.sql_tree.specs.declared.source.ScopeMark.{ScopeMark}
 use Rattle.sql_tree.specs.declared.source.ScopeMark.TheVariants as mark
-use Rattle.name_meaning.specs.Froms.{names_of, names_at, all_places, table_columns, settled_columns, named_columns, Read, external, read_table, read_view, read_nothing, read_named, read_query, named_so, place_of, column_breaks, attribute_breaks, texts_of, marked, mark_breaks, SourcePart, named as named_source, inner as inner_source, ItemMeant, FromItemPart, read_of, read_names, item_meant, in_on, FromMeant, JoinPart, FromPart, join_kind, scope_items, both_known, first_item, on_meant, optional_breaks, on_built, beside_items, in_from, joined, applied, join_item, joined_item, join_all, beside_from, from_more, from_all, yes}
+use Rattle.name_meaning.specs.Froms.{names_of, names_at, all_places, table_columns, settled_columns, named_columns, Read, external, read_table, read_view, read_nothing, read_named, read_query, named_so, place_of, column_breaks, attribute_breaks, texts_of, marked, mark_breaks, SourcePart, named as named_source, inner as inner_source, ItemMeant, FromItemPart, read_of, read_names, item_meant, in_on, FromMeant, JoinPart, FromPart, join_kind, scope_items, both_known, first_item, on_meant, optional_breaks, on_built, beside_items, in_from, joined, applied, join_item, joined_item, join_all, beside_from, from_more, from_all}
 use Rattle.name_meaning.specs.Meanings.{Around, Part, OutColumn, QueryMeant, broken_if, Built}
 use Rattle.name_meaning.specs.Scopes.{KnownColumn, ScopeItem, scope_of, numbered_columns, columns_from}
 use Rattle.name_meaning.specs.Sublinks.{nothing_before}
@@ -49,17 +53,17 @@ use Rattle.name_meaning.specs.declared.scope.ScopeColumn.{ScopeColumn}
 use Rattle.name_meaning.specs.laws.Known.{column_kinds_of, items_kinds}
 use Rattle.name_meaning.specs.laws.Standing.{StandAt, HoldsScope, RowsHold, AggregatesStand}
 use Rattle.name_meaning.proofs.Arms.{GoodOptional}
-use Rattle.name_meaning.proofs.Cores.{by, formed-condition}
+use Rattle.name_meaning.proofs.Cores.{formed-condition}
 use Rattle.name_meaning.proofs.Sublinks.{GoodQuery}
 use Rattle.name_meaning.specs.declared.rule.Rule.TheVariants as rule
-use Rattle.name_meaning.proofs.Every.{front-none, back-none, unbroken-not}
-use Rattle.name_meaning.proofs.KindsOf.{kinds-table_columns, kinds-settled_columns, items_kinds-append, kinds-plain, table_with, kinds-table, kinds-marked}
-use Rattle.name_meaning.proofs.Settled.{kinds-named_columns}
+use Rattle.name_meaning.proofs.Every.{unbroken-not}
+use Rattle.name_meaning.proofs.KindsOf.{kinds-table_columns, items_kinds-append, kinds-plain, table_with, kinds-table, kinds-marked}
+use Rattle.name_meaning.proofs.Settled.{kinds-named_columns, settled-kinds}
 use Rattle.name_meaning.proofs.Standing.{stand-whole}
 
 -- ---- places
 
-pub range-in : (from n width : ℕ) → from + n ≤ width → PlacesIn width (range_with_len from n)
+pub range-in : (from n width : ℕ) → from + n ≤ width → PlacesWithin width (range_with_len from n)
 range-in from zero width h = All-nil _
 range-in from (suc n) width h =
     All-cons (λ (place : ℕ). place < width) from (range_with_len (from + 1) n) (omega arith) (range-in (from + 1) n width (omega arith))
@@ -74,7 +78,7 @@ position-in {X} test (x ∷ xs) e = chosen (position test (x ∷ xs)) refl where
   chosen (Some at) f = (position-Some test (x ∷ xs) at x f).0
 
 attributes-in : (names earlier : List (List ℕ)) (attributes : List Name) → attribute_breaks (Some names) earlier attributes ≡ []
-    → PlacesIn (length names) (map (place_of names) (texts_of attributes))
+    → PlacesWithin (length names) (map (place_of names) (texts_of attributes))
 attributes-in names earlier [] whole = All-nil _
 attributes-in names earlier (attribute ∷ attributes) whole =
     let one : List Break = column_breaks attribute names in
@@ -120,13 +124,13 @@ pub record FormedRead (outer : List Scope) (r : Read) : Type 0 where
 abbrev pub GoodRead : List Scope → Read → Type 0
 GoodRead outer r = r.breaks ≡ [] → FormedRead outer r
 
-based-formed : (rows : List (List Kind)) (input : Query) (places : List ℕ) (label : Label) → WellFormed rows input → PlacesIn (width_of input) places
+based-formed : (rows : List (List Kind)) (input : Query) (places : List ℕ) (label : Label) → WellFormed rows input → PlacesWithin (width_of input) places
     → label_width label ≡ length places → WellFormed rows (Base input places label)
 based-formed rows input places label f within named =
     by (sym (WellFormed-Base rows input places label)) (record { input = f; in_range = within; named = named })
 
 plain-formed : (rows : List (List Kind)) (query : Query) (names : List (List ℕ)) (places : Option (List ℕ)) → WellFormed rows query
-    → IfSome places (PlacesIn (width_of query)) → WellFormed rows (option_map_or (external query names) places query)
+    → IfSome places (PlacesWithin (width_of query)) → WellFormed rows (option_map_or (external query names) places query)
 plain-formed rows query names None f within = f
 plain-formed rows query names (Some places) f within = based-formed rows query places (External (names_at names places)) f within (length-map places _)
 
@@ -141,7 +145,7 @@ module _ (c : Contents) (sound : IsSound c) where
       (range-in 0 (length columns) (length (column_kinds columns)) (omega (arith, l))) m
   table-formed rows id name columns held (Some mark) is =
       based-formed rows (Table id (column_kinds columns)) mark.places (External (names_at (names_of (table_columns columns)) mark.places)) tt
-      (subst (λ (n : ℕ). PlacesIn n mark.places) (sym (length-map columns (λ (column : Column). column.kind))) is.places)
+      (subst (λ (n : ℕ). PlacesWithin n mark.places) (sym (length-map columns (λ (column : Column). column.kind))) is.places)
       (length-map mark.places _)
 
   good-read_table : (outer : List Scope) (name : List ℕ) (table : TableEntry) → IsSoundTable c table → GoodRead outer (read_table name table)
@@ -182,7 +186,7 @@ module _ (c : Contents) (sound : IsSound c) where
   good-read_query : (around : Around) (m : QueryMeant) → GoodQuery around m → GoodRead around.outer (read_query m)
   good-read_query around m good whole =
       let query = good.known whole in
-      let kinds = query.kinds [] ∙ kinds-settled_columns query.columns in
+      let kinds = query.kinds [] ∙ settled-kinds query.columns in
       let names = option_map_or (λ (columns : List OutColumn). names_of (settled_columns columns)) m.columns [] in
       record {
         columns = settled_columns query.columns;
@@ -223,7 +227,7 @@ marked-formed mark.BaseRelation label names read rows f g width whole =
     (sym (length-range_with_len 0 (length names)))
 marked-formed (mark.External attributes) label names read rows f g width whole =
     based-formed rows read.query (map (place_of names) (texts_of attributes)) (External (texts_of attributes)) f
-    (subst (λ w. PlacesIn w (map (place_of names) (texts_of attributes))) width (attributes-in names [] attributes whole))
+    (subst (λ w. PlacesWithin w (map (place_of names) (texts_of attributes))) width (attributes-in names [] attributes whole))
     (sym (length-map (texts_of attributes) (place_of names)))
 
 pub good-item_meant : (outer : List Scope) (at : ℕ) (m : ScopeMark) (earlier : List (List ℕ)) (name label : List ℕ) (read : Read) → GoodRead outer read
@@ -274,7 +278,7 @@ good-first outer earlier m good whole =
       formed = item.formed;
     }
 
-yes-holds : (rows : List (List Kind)) → HasKind rows [] yes Boolean
+yes-holds : (rows : List (List Kind)) → HasKind rows [] always Boolean
 yes-holds rows = record { fitting = refl; gives = refl }
 
 crossed-formed : (kind : JoinKind) (left right : Query) (condition : Expr) (rows : List (List Kind)) → WellFormed rows left → WellFormed rows right
@@ -288,7 +292,7 @@ joined-formed : (kind : JoinKind) (left right : Query) (outer : List Scope) (ite
     → RowsHold outer rows → WellFormed rows left → WellFormed rows right
     → WellFormed rows (Join kind left right (on_built (on_meant outer (Some items) condition)).expr (on_built (on_meant outer (Some items) condition)).subs)
 joined-formed kind left right outer items None rows good whole is hold f g =
-    crossed-formed kind left right yes rows f g (yes-holds ((kinds_of left ++ kinds_of right) ∷ rows))
+    crossed-formed kind left right always rows f g (yes-holds ((kinds_of left ++ kinds_of right) ∷ rows))
 joined-formed kind left right outer items (Some part) rows good whole is hold f g =
     let here = in_on items outer in
     let row : List Kind = kinds_of left ++ kinds_of right in
@@ -395,8 +399,8 @@ good-beside outer left right l r whole =
     record {
       items = a.items ++ b.items;
       known = λ i. both_known (a.known i) (b.known i);
-      kinds = kinds_of-Join join.Inner left.query right.query yes [] ∙ (λ i. a.kinds i ++ b.kinds i) ∙ sym (items_kinds-append a.items b.items);
-      formed = λ rows hold. crossed-formed join.Inner left.query right.query yes rows (a.formed rows hold) (b.formed rows hold) (yes-holds ((kinds_of left.query ++ kinds_of right.query) ∷ rows));
+      kinds = kinds_of-Join join.Inner left.query right.query always [] ∙ (λ i. a.kinds i ++ b.kinds i) ∙ sym (items_kinds-append a.items b.items);
+      formed = λ rows hold. crossed-formed join.Inner left.query right.query always rows (a.formed rows hold) (b.formed rows hold) (yes-holds ((kinds_of left.query ++ kinds_of right.query) ∷ rows));
     }
 
 good-more : (outer : List Scope) (left : FromMeant) (parts : List FromPart) → GoodFrom outer left → Every GoodFromPart parts

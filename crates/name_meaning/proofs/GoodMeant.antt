@@ -3,6 +3,7 @@ use Rattle.std.specs.Prelude.{◌≡◌, ⊤, ℕ, false, List, [], ◌∷◌, �
 use Rattle.std.proofs.Common.{refl, subst}
 use Rattle.std.specs.List.{AllByRecursion as Every}
 use Rattle.perm_values.specs.declared.kind.Kind.{Kind}
+use Rattle.perm_values.proofs.Lists.{front-none, back-none}
 use Rattle.bag_algebra.specs.WellFormed.{HasKind}
 use Rattle.bag_algebra.specs.declared.expr.Expr.{Expr}
 use Rattle.name_meaning.specs.Meanings.{Surroundings, Before, Built, Meant, Part, seen_kind, settled}
@@ -12,7 +13,7 @@ use Rattle.name_meaning.specs.declared.need.Gives.TheVariants.{Always as always,
 use Rattle.name_meaning.specs.laws.Formed.{IsFormed, IsFormedExpr}
 use Rattle.name_meaning.proofs.FormedParts.{formed-none, formed-map, formed-both}
 use Rattle.name_meaning.proofs.Needs.{Fits, fits-operands, taken, taken_kinds, taken-settled}
-use Rattle.name_meaning.proofs.Every.{front-none, back-none, whole-kind}
+use Rattle.name_meaning.proofs.Every.{whole-kind}
 
 -- an expression that breaks nothing is made to one that is well formed and has its kind, at any wanted kind and behind whatever
 -- stands before it

@@ -6,6 +6,7 @@ use Rattle.std.proofs.lemmas.List.Elements.{All-contains}
 use Rattle.std.proofs.lemmas.Option.{same_Some}
 use Rattle.perm_values.specs.declared.kind.Kind.{Kind}
 use Rattle.perm_values.specs.declared.kind.Kind.TheVariants.{Boolean}
+use Rattle.perm_values.proofs.Lists.{front-none, back-none}
 use Rattle.bag_algebra.proofs.TablesRead.{each_table-from_told, each_table-kept}
 use Rattle.bag_algebra.specs.built.Forms.{subs_kinds}
 use Rattle.bag_algebra.specs.TablesRead.{EachTable, TableRead, tables_read}
@@ -37,7 +38,7 @@ use Rattle.name_meaning.specs.laws.Impacts.{ImpactStands, IsHeldTable}
 use Rattle.name_meaning.specs.laws.Known.{column_kinds_of}
 use Rattle.name_meaning.specs.laws.Standing.{AggregatesStand, StandAt}
 use Rattle.name_meaning.proofs.Cores.{formed-condition}
-use Rattle.name_meaning.proofs.Every.{back-none, front-none, unbroken}
+use Rattle.name_meaning.proofs.Every.{unbroken}
 use Rattle.name_meaning.proofs.FittingTables.{always-grows}
 use Rattle.name_meaning.proofs.Froms.{scope-holds}
 use Rattle.name_meaning.proofs.KindsOf.{kinds-table_columns}
@@ -65,11 +66,11 @@ module _ (c : Contents) (sound : IsSound c) where
 
 -- ---- rules that are looked at where earlier ones aren't broken
 
-earlier-none : (earlier more : List Break) → cond (is_whole earlier) more earlier ≡ [] → earlier ≡ []
+pub earlier-none : (earlier more : List Break) → cond (is_whole earlier) more earlier ≡ [] → earlier ≡ []
 earlier-none [] more e = refl
 earlier-none (first ∷ rest) more e = e
 
-later-none : (earlier more : List Break) → cond (is_whole earlier) more earlier ≡ [] → more ≡ []
+pub later-none : (earlier more : List Break) → cond (is_whole earlier) more earlier ≡ [] → more ≡ []
 later-none [] more e = e
 later-none (first ∷ rest) more e = cc e
 

@@ -2,6 +2,7 @@
 use Rattle.std.specs.Prelude.{◌≡◌, ⊤, Option, Some, None}
 use Rattle.std.proofs.Common.{sym, subst}
 use Rattle.perm_catalog.specs.Contents.{Contents}
+use Rattle.sql_tree.specs.Regular.{BodyLayer, ItemLayer, SetLayer, SourceLayer}
 use Rattle.sql_tree.specs.declared.expression.ArmTree.{ArmTree, roll-ArmTree}
 use Rattle.sql_tree.specs.declared.expression.ExprBody.{ExprBody, roll-ExprBody}
 use Rattle.sql_tree.specs.declared.expression.ExprBody.TheFolds.{map-ExprBody, map-SelectItem, map-SetTree, map-FromSource, map-ArmTree, map-ExprStep, map-ExprTree, map-Core, map-QueryTree, map-SetStep, map-FromItem, map-FromTree, map-JoinStep, fold-roll-ExprBody, fold-roll-SelectItem, fold-roll-SetTree, fold-roll-FromSource, fold-roll-ArmTree, fold-roll-ExprStep, fold-roll-ExprTree, fold-roll-Core, fold-roll-QueryTree, fold-roll-SetStep, fold-roll-FromItem, fold-roll-FromTree, fold-roll-JoinStep, ind-ExprTree, ind-QueryTree, ind-SetTree, ind-Core, ind-SelectItem, ind-FromItem, ind-FromTree}
@@ -17,6 +18,7 @@ use Rattle.sql_tree.specs.declared.source.FromItem.{FromItem, roll-FromItem}
 use Rattle.sql_tree.specs.declared.source.FromSource.{FromSource, roll-FromSource}
 use Rattle.sql_tree.specs.declared.source.FromTree.{FromTree, roll-FromTree}
 use Rattle.sql_tree.specs.declared.source.JoinStep.{JoinStep, roll-JoinStep}
+use Rattle.contribution.proofs.WhereGood.{Every}
 use Rattle.name_meaning.proofs.Equations.{ExprBodyFrame, SelectItemFrame, SetTreeFrame, FromSourceFrame, ArmTreeFrame, ExprStepFrame, ExprTreeFrame, CoreFrame, QueryTreeFrame, SetStepFrame, FromItemFrame, FromTreeFrame, JoinStepFrame}
 use Rattle.name_meaning.specs.Cores.{BodyPart, core_step}
 use Rattle.name_meaning.specs.Expressions.{Body, StepPart, ArmPart, body_step, arm_step, step_step, expr_step}
@@ -25,8 +27,8 @@ use Rattle.name_meaning.specs.Items.{SelectPart, item_step}
 use Rattle.name_meaning.specs.Meanings.{Part, QueryPart}
 use Rattle.name_meaning.specs.Queries.{SetStepPart, set_step, set_step_step, query_step}
 use Rattle.name_meaning.specs.Trees.{body_of, item_of, set_of_tree, source_of, arm_of, step_of, part_of, core_of, query_of, set_step_of, from_item_of, from_of, join_of}
-use Rattle.name_meaning.proofs.Every.{Every, every-proved}
-use Rattle.name_meaning.proofs.Opened.{Layer_body, Layer_item, Layer_set, Layer_source, Layer_arm, Layer_step, Layer_part, Layer_core, Layer_query, Layer_set_step, Layer_from_item, Layer_from, Layer_join, shown_body, shown_item, shown_set, shown_source, shown_arm, shown_step, shown_part, shown_core, shown_query, shown_set_step, shown_from_item, shown_from, shown_join}
+use Rattle.name_meaning.proofs.Every.{every-proved}
+use Rattle.name_meaning.proofs.Opened.{ArmLayer, StepLayer, PartLayer, CoreLayer, QueryLayer, SetStepLayer, FromItemLayer, FromLayer, JoinLayer, shown_body, shown_item, shown_set, shown_source, shown_arm, shown_step, shown_part, shown_core, shown_query, shown_set_step, shown_from_item, shown_from, shown_join}
 
 module _ (c : Contents) (OfBody : Body → Type 0) (OfItem : SelectPart → Type 0) (OfSet : BodyPart → Type 0) (OfSource : SourcePart → Type 0)
     (OfArm : ArmPart → Type 0) (OfStep : StepPart → Type 0) (OfPart : Part → Type 0) (OfCore : BodyPart → Type 0) (OfQuery : QueryPart → Type 0)
@@ -146,7 +148,7 @@ module _ (c : Contents) (OfBody : Body → Type 0) (OfItem : SelectPart → Type
   abbrev Proved_body : Type 0
   Proved_body = ExprBody-F WithBody WithItem WithSet WithSource WithArm WithStep WithPart WithCore WithQuery WithSetStep WithFromItem WithFrom WithJoin
 
-  abbrev first_body : Proved_body → Layer_body
+  abbrev first_body : Proved_body → BodyLayer
   first_body = map-ExprBody WithBody WithItem WithSet WithSource WithArm WithStep WithPart WithCore WithQuery WithSetStep WithFromItem WithFrom WithJoin
       ExprBody SelectItem SetTree FromSource ArmTree ExprStep ExprTree Core QueryTree SetStep FromItem FromTree JoinStep
       (λ (e : WithBody). e.0) (λ (e : WithItem). e.0) (λ (e : WithSet). e.0) (λ (e : WithSource). e.0) (λ (e : WithArm). e.0) (λ (e : WithStep). e.0) (λ (e : WithPart). e.0) (λ (e : WithCore). e.0) (λ (e : WithQuery). e.0) (λ (e : WithSetStep). e.0) (λ (e : WithFromItem). e.0) (λ (e : WithFrom). e.0) (λ (e : WithJoin). e.0)
@@ -154,7 +156,7 @@ module _ (c : Contents) (OfBody : Body → Type 0) (OfItem : SelectPart → Type
   abbrev Proved_item : Type 0
   Proved_item = SelectItem-F WithBody WithItem WithSet WithSource WithArm WithStep WithPart WithCore WithQuery WithSetStep WithFromItem WithFrom WithJoin
 
-  abbrev first_item : Proved_item → Layer_item
+  abbrev first_item : Proved_item → ItemLayer
   first_item = map-SelectItem WithBody WithItem WithSet WithSource WithArm WithStep WithPart WithCore WithQuery WithSetStep WithFromItem WithFrom WithJoin
       ExprBody SelectItem SetTree FromSource ArmTree ExprStep ExprTree Core QueryTree SetStep FromItem FromTree JoinStep
       (λ (e : WithBody). e.0) (λ (e : WithItem). e.0) (λ (e : WithSet). e.0) (λ (e : WithSource). e.0) (λ (e : WithArm). e.0) (λ (e : WithStep). e.0) (λ (e : WithPart). e.0) (λ (e : WithCore). e.0) (λ (e : WithQuery). e.0) (λ (e : WithSetStep). e.0) (λ (e : WithFromItem). e.0) (λ (e : WithFrom). e.0) (λ (e : WithJoin). e.0)
@@ -162,7 +164,7 @@ module _ (c : Contents) (OfBody : Body → Type 0) (OfItem : SelectPart → Type
   abbrev Proved_set : Type 0
   Proved_set = SetTree-F WithBody WithItem WithSet WithSource WithArm WithStep WithPart WithCore WithQuery WithSetStep WithFromItem WithFrom WithJoin
 
-  abbrev first_set : Proved_set → Layer_set
+  abbrev first_set : Proved_set → SetLayer
   first_set = map-SetTree WithBody WithItem WithSet WithSource WithArm WithStep WithPart WithCore WithQuery WithSetStep WithFromItem WithFrom WithJoin
       ExprBody SelectItem SetTree FromSource ArmTree ExprStep ExprTree Core QueryTree SetStep FromItem FromTree JoinStep
       (λ (e : WithBody). e.0) (λ (e : WithItem). e.0) (λ (e : WithSet). e.0) (λ (e : WithSource). e.0) (λ (e : WithArm). e.0) (λ (e : WithStep). e.0) (λ (e : WithPart). e.0) (λ (e : WithCore). e.0) (λ (e : WithQuery). e.0) (λ (e : WithSetStep). e.0) (λ (e : WithFromItem). e.0) (λ (e : WithFrom). e.0) (λ (e : WithJoin). e.0)
@@ -170,7 +172,7 @@ module _ (c : Contents) (OfBody : Body → Type 0) (OfItem : SelectPart → Type
   abbrev Proved_source : Type 0
   Proved_source = FromSource-F WithBody WithItem WithSet WithSource WithArm WithStep WithPart WithCore WithQuery WithSetStep WithFromItem WithFrom WithJoin
 
-  abbrev first_source : Proved_source → Layer_source
+  abbrev first_source : Proved_source → SourceLayer
   first_source = map-FromSource WithBody WithItem WithSet WithSource WithArm WithStep WithPart WithCore WithQuery WithSetStep WithFromItem WithFrom WithJoin
       ExprBody SelectItem SetTree FromSource ArmTree ExprStep ExprTree Core QueryTree SetStep FromItem FromTree JoinStep
       (λ (e : WithBody). e.0) (λ (e : WithItem). e.0) (λ (e : WithSet). e.0) (λ (e : WithSource). e.0) (λ (e : WithArm). e.0) (λ (e : WithStep). e.0) (λ (e : WithPart). e.0) (λ (e : WithCore). e.0) (λ (e : WithQuery). e.0) (λ (e : WithSetStep). e.0) (λ (e : WithFromItem). e.0) (λ (e : WithFrom). e.0) (λ (e : WithJoin). e.0)
@@ -178,7 +180,7 @@ module _ (c : Contents) (OfBody : Body → Type 0) (OfItem : SelectPart → Type
   abbrev Proved_arm : Type 0
   Proved_arm = ArmTree-F WithBody WithItem WithSet WithSource WithArm WithStep WithPart WithCore WithQuery WithSetStep WithFromItem WithFrom WithJoin
 
-  abbrev first_arm : Proved_arm → Layer_arm
+  abbrev first_arm : Proved_arm → ArmLayer
   first_arm = map-ArmTree WithBody WithItem WithSet WithSource WithArm WithStep WithPart WithCore WithQuery WithSetStep WithFromItem WithFrom WithJoin
       ExprBody SelectItem SetTree FromSource ArmTree ExprStep ExprTree Core QueryTree SetStep FromItem FromTree JoinStep
       (λ (e : WithBody). e.0) (λ (e : WithItem). e.0) (λ (e : WithSet). e.0) (λ (e : WithSource). e.0) (λ (e : WithArm). e.0) (λ (e : WithStep). e.0) (λ (e : WithPart). e.0) (λ (e : WithCore). e.0) (λ (e : WithQuery). e.0) (λ (e : WithSetStep). e.0) (λ (e : WithFromItem). e.0) (λ (e : WithFrom). e.0) (λ (e : WithJoin). e.0)
@@ -186,7 +188,7 @@ module _ (c : Contents) (OfBody : Body → Type 0) (OfItem : SelectPart → Type
   abbrev Proved_step : Type 0
   Proved_step = ExprStep-F WithBody WithItem WithSet WithSource WithArm WithStep WithPart WithCore WithQuery WithSetStep WithFromItem WithFrom WithJoin
 
-  abbrev first_step : Proved_step → Layer_step
+  abbrev first_step : Proved_step → StepLayer
   first_step = map-ExprStep WithBody WithItem WithSet WithSource WithArm WithStep WithPart WithCore WithQuery WithSetStep WithFromItem WithFrom WithJoin
       ExprBody SelectItem SetTree FromSource ArmTree ExprStep ExprTree Core QueryTree SetStep FromItem FromTree JoinStep
       (λ (e : WithBody). e.0) (λ (e : WithItem). e.0) (λ (e : WithSet). e.0) (λ (e : WithSource). e.0) (λ (e : WithArm). e.0) (λ (e : WithStep). e.0) (λ (e : WithPart). e.0) (λ (e : WithCore). e.0) (λ (e : WithQuery). e.0) (λ (e : WithSetStep). e.0) (λ (e : WithFromItem). e.0) (λ (e : WithFrom). e.0) (λ (e : WithJoin). e.0)
@@ -194,7 +196,7 @@ module _ (c : Contents) (OfBody : Body → Type 0) (OfItem : SelectPart → Type
   abbrev Proved_part : Type 0
   Proved_part = ExprTree-F WithBody WithItem WithSet WithSource WithArm WithStep WithPart WithCore WithQuery WithSetStep WithFromItem WithFrom WithJoin
 
-  abbrev first_part : Proved_part → Layer_part
+  abbrev first_part : Proved_part → PartLayer
   first_part = map-ExprTree WithBody WithItem WithSet WithSource WithArm WithStep WithPart WithCore WithQuery WithSetStep WithFromItem WithFrom WithJoin
       ExprBody SelectItem SetTree FromSource ArmTree ExprStep ExprTree Core QueryTree SetStep FromItem FromTree JoinStep
       (λ (e : WithBody). e.0) (λ (e : WithItem). e.0) (λ (e : WithSet). e.0) (λ (e : WithSource). e.0) (λ (e : WithArm). e.0) (λ (e : WithStep). e.0) (λ (e : WithPart). e.0) (λ (e : WithCore). e.0) (λ (e : WithQuery). e.0) (λ (e : WithSetStep). e.0) (λ (e : WithFromItem). e.0) (λ (e : WithFrom). e.0) (λ (e : WithJoin). e.0)
@@ -202,7 +204,7 @@ module _ (c : Contents) (OfBody : Body → Type 0) (OfItem : SelectPart → Type
   abbrev Proved_core : Type 0
   Proved_core = Core-F WithBody WithItem WithSet WithSource WithArm WithStep WithPart WithCore WithQuery WithSetStep WithFromItem WithFrom WithJoin
 
-  abbrev first_core : Proved_core → Layer_core
+  abbrev first_core : Proved_core → CoreLayer
   first_core = map-Core WithBody WithItem WithSet WithSource WithArm WithStep WithPart WithCore WithQuery WithSetStep WithFromItem WithFrom WithJoin
       ExprBody SelectItem SetTree FromSource ArmTree ExprStep ExprTree Core QueryTree SetStep FromItem FromTree JoinStep
       (λ (e : WithBody). e.0) (λ (e : WithItem). e.0) (λ (e : WithSet). e.0) (λ (e : WithSource). e.0) (λ (e : WithArm). e.0) (λ (e : WithStep). e.0) (λ (e : WithPart). e.0) (λ (e : WithCore). e.0) (λ (e : WithQuery). e.0) (λ (e : WithSetStep). e.0) (λ (e : WithFromItem). e.0) (λ (e : WithFrom). e.0) (λ (e : WithJoin). e.0)
@@ -210,7 +212,7 @@ module _ (c : Contents) (OfBody : Body → Type 0) (OfItem : SelectPart → Type
   abbrev Proved_query : Type 0
   Proved_query = QueryTree-F WithBody WithItem WithSet WithSource WithArm WithStep WithPart WithCore WithQuery WithSetStep WithFromItem WithFrom WithJoin
 
-  abbrev first_query : Proved_query → Layer_query
+  abbrev first_query : Proved_query → QueryLayer
   first_query = map-QueryTree WithBody WithItem WithSet WithSource WithArm WithStep WithPart WithCore WithQuery WithSetStep WithFromItem WithFrom WithJoin
       ExprBody SelectItem SetTree FromSource ArmTree ExprStep ExprTree Core QueryTree SetStep FromItem FromTree JoinStep
       (λ (e : WithBody). e.0) (λ (e : WithItem). e.0) (λ (e : WithSet). e.0) (λ (e : WithSource). e.0) (λ (e : WithArm). e.0) (λ (e : WithStep). e.0) (λ (e : WithPart). e.0) (λ (e : WithCore). e.0) (λ (e : WithQuery). e.0) (λ (e : WithSetStep). e.0) (λ (e : WithFromItem). e.0) (λ (e : WithFrom). e.0) (λ (e : WithJoin). e.0)
@@ -218,7 +220,7 @@ module _ (c : Contents) (OfBody : Body → Type 0) (OfItem : SelectPart → Type
   abbrev Proved_set_step : Type 0
   Proved_set_step = SetStep-F WithBody WithItem WithSet WithSource WithArm WithStep WithPart WithCore WithQuery WithSetStep WithFromItem WithFrom WithJoin
 
-  abbrev first_set_step : Proved_set_step → Layer_set_step
+  abbrev first_set_step : Proved_set_step → SetStepLayer
   first_set_step = map-SetStep WithBody WithItem WithSet WithSource WithArm WithStep WithPart WithCore WithQuery WithSetStep WithFromItem WithFrom WithJoin
       ExprBody SelectItem SetTree FromSource ArmTree ExprStep ExprTree Core QueryTree SetStep FromItem FromTree JoinStep
       (λ (e : WithBody). e.0) (λ (e : WithItem). e.0) (λ (e : WithSet). e.0) (λ (e : WithSource). e.0) (λ (e : WithArm). e.0) (λ (e : WithStep). e.0) (λ (e : WithPart). e.0) (λ (e : WithCore). e.0) (λ (e : WithQuery). e.0) (λ (e : WithSetStep). e.0) (λ (e : WithFromItem). e.0) (λ (e : WithFrom). e.0) (λ (e : WithJoin). e.0)
@@ -226,7 +228,7 @@ module _ (c : Contents) (OfBody : Body → Type 0) (OfItem : SelectPart → Type
   abbrev Proved_from_item : Type 0
   Proved_from_item = FromItem-F WithBody WithItem WithSet WithSource WithArm WithStep WithPart WithCore WithQuery WithSetStep WithFromItem WithFrom WithJoin
 
-  abbrev first_from_item : Proved_from_item → Layer_from_item
+  abbrev first_from_item : Proved_from_item → FromItemLayer
   first_from_item = map-FromItem WithBody WithItem WithSet WithSource WithArm WithStep WithPart WithCore WithQuery WithSetStep WithFromItem WithFrom WithJoin
       ExprBody SelectItem SetTree FromSource ArmTree ExprStep ExprTree Core QueryTree SetStep FromItem FromTree JoinStep
       (λ (e : WithBody). e.0) (λ (e : WithItem). e.0) (λ (e : WithSet). e.0) (λ (e : WithSource). e.0) (λ (e : WithArm). e.0) (λ (e : WithStep). e.0) (λ (e : WithPart). e.0) (λ (e : WithCore). e.0) (λ (e : WithQuery). e.0) (λ (e : WithSetStep). e.0) (λ (e : WithFromItem). e.0) (λ (e : WithFrom). e.0) (λ (e : WithJoin). e.0)
@@ -234,7 +236,7 @@ module _ (c : Contents) (OfBody : Body → Type 0) (OfItem : SelectPart → Type
   abbrev Proved_from : Type 0
   Proved_from = FromTree-F WithBody WithItem WithSet WithSource WithArm WithStep WithPart WithCore WithQuery WithSetStep WithFromItem WithFrom WithJoin
 
-  abbrev first_from : Proved_from → Layer_from
+  abbrev first_from : Proved_from → FromLayer
   first_from = map-FromTree WithBody WithItem WithSet WithSource WithArm WithStep WithPart WithCore WithQuery WithSetStep WithFromItem WithFrom WithJoin
       ExprBody SelectItem SetTree FromSource ArmTree ExprStep ExprTree Core QueryTree SetStep FromItem FromTree JoinStep
       (λ (e : WithBody). e.0) (λ (e : WithItem). e.0) (λ (e : WithSet). e.0) (λ (e : WithSource). e.0) (λ (e : WithArm). e.0) (λ (e : WithStep). e.0) (λ (e : WithPart). e.0) (λ (e : WithCore). e.0) (λ (e : WithQuery). e.0) (λ (e : WithSetStep). e.0) (λ (e : WithFromItem). e.0) (λ (e : WithFrom). e.0) (λ (e : WithJoin). e.0)
@@ -242,7 +244,7 @@ module _ (c : Contents) (OfBody : Body → Type 0) (OfItem : SelectPart → Type
   abbrev Proved_join : Type 0
   Proved_join = JoinStep-F WithBody WithItem WithSet WithSource WithArm WithStep WithPart WithCore WithQuery WithSetStep WithFromItem WithFrom WithJoin
 
-  abbrev first_join : Proved_join → Layer_join
+  abbrev first_join : Proved_join → JoinLayer
   first_join = map-JoinStep WithBody WithItem WithSet WithSource WithArm WithStep WithPart WithCore WithQuery WithSetStep WithFromItem WithFrom WithJoin
       ExprBody SelectItem SetTree FromSource ArmTree ExprStep ExprTree Core QueryTree SetStep FromItem FromTree JoinStep
       (λ (e : WithBody). e.0) (λ (e : WithItem). e.0) (λ (e : WithSet). e.0) (λ (e : WithSource). e.0) (λ (e : WithArm). e.0) (λ (e : WithStep). e.0) (λ (e : WithPart). e.0) (λ (e : WithCore). e.0) (λ (e : WithQuery). e.0) (λ (e : WithSetStep). e.0) (λ (e : WithFromItem). e.0) (λ (e : WithFrom). e.0) (λ (e : WithJoin). e.0)
@@ -314,91 +316,91 @@ module _ (c : Contents) (OfBody : Body → Type 0) (OfItem : SelectPart → Type
   -- ---- the induction
 
   module _ (kept : AreKept) where
-    holds_body : (x : Layer_body) (y : Proved_body) → first_body y ≡ x → OfBody (body_of c (roll-ExprBody x))
+    holds_body : (x : BodyLayer) (y : Proved_body) → first_body y ≡ x → OfBody (body_of c (roll-ExprBody x))
     unfolding body_of item_of set_of_tree source_of arm_of step_of part_of core_of query_of set_step_of from_item_of from_of join_of
     holds_body x y is = subst (λ z. OfBody (body_of c (roll-ExprBody z))) is (subst OfBody
         (sym (fold-roll-ExprBody Body SelectPart BodyPart SourcePart ArmPart StepPart Part BodyPart QueryPart SetStepPart FromItemPart FromPart JoinPart
         body_step item_step set_step source_step arm_step step_step expr_step core_step query_step set_step_step (from_item_step c) from_step join_step (first_body y)))
         (kept.body (shown_body c (first_body y)) (parts_body y)))
 
-    holds_item : (x : Layer_item) (y : Proved_item) → first_item y ≡ x → OfItem (item_of c (roll-SelectItem x))
+    holds_item : (x : ItemLayer) (y : Proved_item) → first_item y ≡ x → OfItem (item_of c (roll-SelectItem x))
     unfolding body_of item_of set_of_tree source_of arm_of step_of part_of core_of query_of set_step_of from_item_of from_of join_of
     holds_item x y is = subst (λ z. OfItem (item_of c (roll-SelectItem z))) is (subst OfItem
         (sym (fold-roll-SelectItem Body SelectPart BodyPart SourcePart ArmPart StepPart Part BodyPart QueryPart SetStepPart FromItemPart FromPart JoinPart
         body_step item_step set_step source_step arm_step step_step expr_step core_step query_step set_step_step (from_item_step c) from_step join_step (first_item y)))
         (kept.item (shown_item c (first_item y)) (parts_item y)))
 
-    holds_set : (x : Layer_set) (y : Proved_set) → first_set y ≡ x → OfSet (set_of_tree c (roll-SetTree x))
+    holds_set : (x : SetLayer) (y : Proved_set) → first_set y ≡ x → OfSet (set_of_tree c (roll-SetTree x))
     unfolding body_of item_of set_of_tree source_of arm_of step_of part_of core_of query_of set_step_of from_item_of from_of join_of
     holds_set x y is = subst (λ z. OfSet (set_of_tree c (roll-SetTree z))) is (subst OfSet
         (sym (fold-roll-SetTree Body SelectPart BodyPart SourcePart ArmPart StepPart Part BodyPart QueryPart SetStepPart FromItemPart FromPart JoinPart
         body_step item_step set_step source_step arm_step step_step expr_step core_step query_step set_step_step (from_item_step c) from_step join_step (first_set y)))
         (kept.set (shown_set c (first_set y)) (parts_set y)))
 
-    holds_source : (x : Layer_source) (y : Proved_source) → first_source y ≡ x → OfSource (source_of c (roll-FromSource x))
+    holds_source : (x : SourceLayer) (y : Proved_source) → first_source y ≡ x → OfSource (source_of c (roll-FromSource x))
     unfolding body_of item_of set_of_tree source_of arm_of step_of part_of core_of query_of set_step_of from_item_of from_of join_of
     holds_source x y is = subst (λ z. OfSource (source_of c (roll-FromSource z))) is (subst OfSource
         (sym (fold-roll-FromSource Body SelectPart BodyPart SourcePart ArmPart StepPart Part BodyPart QueryPart SetStepPart FromItemPart FromPart JoinPart
         body_step item_step set_step source_step arm_step step_step expr_step core_step query_step set_step_step (from_item_step c) from_step join_step (first_source y)))
         (kept.source (shown_source c (first_source y)) (parts_source y)))
 
-    holds_arm : (x : Layer_arm) (y : Proved_arm) → first_arm y ≡ x → OfArm (arm_of c (roll-ArmTree x))
+    holds_arm : (x : ArmLayer) (y : Proved_arm) → first_arm y ≡ x → OfArm (arm_of c (roll-ArmTree x))
     unfolding body_of item_of set_of_tree source_of arm_of step_of part_of core_of query_of set_step_of from_item_of from_of join_of
     holds_arm x y is = subst (λ z. OfArm (arm_of c (roll-ArmTree z))) is (subst OfArm
         (sym (fold-roll-ArmTree Body SelectPart BodyPart SourcePart ArmPart StepPart Part BodyPart QueryPart SetStepPart FromItemPart FromPart JoinPart
         body_step item_step set_step source_step arm_step step_step expr_step core_step query_step set_step_step (from_item_step c) from_step join_step (first_arm y)))
         (kept.arm (shown_arm c (first_arm y)) y.condition.1 y.value.1))
 
-    holds_step : (x : Layer_step) (y : Proved_step) → first_step y ≡ x → OfStep (step_of c (roll-ExprStep x))
+    holds_step : (x : StepLayer) (y : Proved_step) → first_step y ≡ x → OfStep (step_of c (roll-ExprStep x))
     unfolding body_of item_of set_of_tree source_of arm_of step_of part_of core_of query_of set_step_of from_item_of from_of join_of
     holds_step x y is = subst (λ z. OfStep (step_of c (roll-ExprStep z))) is (subst OfStep
         (sym (fold-roll-ExprStep Body SelectPart BodyPart SourcePart ArmPart StepPart Part BodyPart QueryPart SetStepPart FromItemPart FromPart JoinPart
         body_step item_step set_step source_step arm_step step_step expr_step core_step query_step set_step_step (from_item_step c) from_step join_step (first_step y)))
         (kept.step (shown_step c (first_step y)) y.part.1))
 
-    holds_part : (x : Layer_part) (y : Proved_part) → first_part y ≡ x → OfPart (part_of c (roll-ExprTree x))
+    holds_part : (x : PartLayer) (y : Proved_part) → first_part y ≡ x → OfPart (part_of c (roll-ExprTree x))
     unfolding body_of item_of set_of_tree source_of arm_of step_of part_of core_of query_of set_step_of from_item_of from_of join_of
     holds_part x y is = subst (λ z. OfPart (part_of c (roll-ExprTree z))) is (subst OfPart
         (sym (fold-roll-ExprTree Body SelectPart BodyPart SourcePart ArmPart StepPart Part BodyPart QueryPart SetStepPart FromItemPart FromPart JoinPart
         body_step item_step set_step source_step arm_step step_step expr_step core_step query_step set_step_step (from_item_step c) from_step join_step (first_part y)))
         (kept.part (shown_part c (first_part y)) y.body.1))
 
-    holds_core : (x : Layer_core) (y : Proved_core) → first_core y ≡ x → OfCore (core_of c (roll-Core x))
+    holds_core : (x : CoreLayer) (y : Proved_core) → first_core y ≡ x → OfCore (core_of c (roll-Core x))
     unfolding body_of item_of set_of_tree source_of arm_of step_of part_of core_of query_of set_step_of from_item_of from_of join_of
     holds_core x y is = subst (λ z. OfCore (core_of c (roll-Core z))) is (subst OfCore
         (sym (fold-roll-Core Body SelectPart BodyPart SourcePart ArmPart StepPart Part BodyPart QueryPart SetStepPart FromItemPart FromPart JoinPart
         body_step item_step set_step source_step arm_step step_step expr_step core_step query_step set_step_step (from_item_step c) from_step join_step (first_core y)))
         (kept.core (shown_core c (first_core y)) (parts_core y)))
 
-    holds_query : (x : Layer_query) (y : Proved_query) → first_query y ≡ x → OfQuery (query_of c (roll-QueryTree x))
+    holds_query : (x : QueryLayer) (y : Proved_query) → first_query y ≡ x → OfQuery (query_of c (roll-QueryTree x))
     unfolding body_of item_of set_of_tree source_of arm_of step_of part_of core_of query_of set_step_of from_item_of from_of join_of
     holds_query x y is = subst (λ z. OfQuery (query_of c (roll-QueryTree z))) is (subst OfQuery
         (sym (fold-roll-QueryTree Body SelectPart BodyPart SourcePart ArmPart StepPart Part BodyPart QueryPart SetStepPart FromItemPart FromPart JoinPart
         body_step item_step set_step source_step arm_step step_step expr_step core_step query_step set_step_step (from_item_step c) from_step join_step (first_query y)))
         (kept.query (shown_query c (first_query y)) y.body.1))
 
-    holds_set_step : (x : Layer_set_step) (y : Proved_set_step) → first_set_step y ≡ x → OfSetStep (set_step_of c (roll-SetStep x))
+    holds_set_step : (x : SetStepLayer) (y : Proved_set_step) → first_set_step y ≡ x → OfSetStep (set_step_of c (roll-SetStep x))
     unfolding body_of item_of set_of_tree source_of arm_of step_of part_of core_of query_of set_step_of from_item_of from_of join_of
     holds_set_step x y is = subst (λ z. OfSetStep (set_step_of c (roll-SetStep z))) is (subst OfSetStep
         (sym (fold-roll-SetStep Body SelectPart BodyPart SourcePart ArmPart StepPart Part BodyPart QueryPart SetStepPart FromItemPart FromPart JoinPart
         body_step item_step set_step source_step arm_step step_step expr_step core_step query_step set_step_step (from_item_step c) from_step join_step (first_set_step y)))
         (kept.set_operand (shown_set_step c (first_set_step y)) y.operand.1))
 
-    holds_from_item : (x : Layer_from_item) (y : Proved_from_item) → first_from_item y ≡ x → OfFromItem (from_item_of c (roll-FromItem x))
+    holds_from_item : (x : FromItemLayer) (y : Proved_from_item) → first_from_item y ≡ x → OfFromItem (from_item_of c (roll-FromItem x))
     unfolding body_of item_of set_of_tree source_of arm_of step_of part_of core_of query_of set_step_of from_item_of from_of join_of
     holds_from_item x y is = subst (λ z. OfFromItem (from_item_of c (roll-FromItem z))) is (subst OfFromItem
         (sym (fold-roll-FromItem Body SelectPart BodyPart SourcePart ArmPart StepPart Part BodyPart QueryPart SetStepPart FromItemPart FromPart JoinPart
         body_step item_step set_step source_step arm_step step_step expr_step core_step query_step set_step_step (from_item_step c) from_step join_step (first_from_item y)))
         (kept.from_item (shown_from_item c (first_from_item y)) y.source.1))
 
-    holds_from : (x : Layer_from) (y : Proved_from) → first_from y ≡ x → OfFrom (from_of c (roll-FromTree x))
+    holds_from : (x : FromLayer) (y : Proved_from) → first_from y ≡ x → OfFrom (from_of c (roll-FromTree x))
     unfolding body_of item_of set_of_tree source_of arm_of step_of part_of core_of query_of set_step_of from_item_of from_of join_of
     holds_from x y is = subst (λ z. OfFrom (from_of c (roll-FromTree z))) is (subst OfFrom
         (sym (fold-roll-FromTree Body SelectPart BodyPart SourcePart ArmPart StepPart Part BodyPart QueryPart SetStepPart FromItemPart FromPart JoinPart
         body_step item_step set_step source_step arm_step step_step expr_step core_step query_step set_step_step (from_item_step c) from_step join_step (first_from y)))
         (kept.from_tree (shown_from c (first_from y)) y.first.1 (every-proved OfJoin (join_of c) y.joins)))
 
-    holds_join : (x : Layer_join) (y : Proved_join) → first_join y ≡ x → OfJoin (join_of c (roll-JoinStep x))
+    holds_join : (x : JoinLayer) (y : Proved_join) → first_join y ≡ x → OfJoin (join_of c (roll-JoinStep x))
     unfolding body_of item_of set_of_tree source_of arm_of step_of part_of core_of query_of set_step_of from_item_of from_of join_of
     holds_join x y is = subst (λ z. OfJoin (join_of c (roll-JoinStep z))) is (subst OfJoin
         (sym (fold-roll-JoinStep Body SelectPart BodyPart SourcePart ArmPart StepPart Part BodyPart QueryPart SetStepPart FromItemPart FromPart JoinPart

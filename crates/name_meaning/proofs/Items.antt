@@ -5,10 +5,12 @@ use Rattle.std.proofs.lemmas.List.Elements.{All-nil, All-cons, All-append}
 use Rattle.std.specs.List.{list_any, AllByRecursion as Every}
 use Rattle.std.specs.Option.{option_map_or}
 use Rattle.perm_values.specs.declared.kind.Kind.{Kind}
+use Rattle.perm_values.proofs.Lists.{front-none, back-none}
 use Rattle.bag_algebra.specs.WellFormed.{HasKind, ItemsForm}
 use Rattle.bag_algebra.specs.declared.expr.Expr.TheVariants.{Col}
 use Rattle.bag_algebra.specs.declared.expr.Item.{Item}
 use Rattle.sql_tree.specs.declared.name.Name.{Name}
+use Rattle.bag_algebra.proofs.Truths.{left-false, right-false}
 use Rattle.name_meaning.specs.Items.{Made, SelectMeant, SelectPart, column_item, columns_meant, no_columns, star_meant, table_star_meant, first_wanted, value_meant, width_of_item, made_items, items_breaks}
 use Rattle.name_meaning.specs.Meanings.{Surroundings, Before, Meant, settled}
 use Rattle.name_meaning.specs.Operands.{behind}
@@ -21,7 +23,6 @@ use Rattle.name_meaning.proofs.FoundColumns.{IsPlaced, all-placed, item-placed}
 use Rattle.name_meaning.proofs.FormedParts.{formed-none, formed-map, formed-both}
 use Rattle.name_meaning.proofs.GoodMeant.{GoodMeant, IsPlain}
 use Rattle.name_meaning.proofs.Arms.{null-holds}
-use Rattle.name_meaning.proofs.Every.{front-none, back-none, left-false, right-false}
 use Rattle.name_meaning.proofs.Settled.{settled-twice}
 
 abbrev pub IsFormedList : Surroundings → Before → Made → Type 0

@@ -4,12 +4,14 @@ use Rattle.std.proofs.Common.{refl, ap, sym, ◌∙◌, subst}
 use Rattle.std.specs.Option.{option_map_or}
 use Rattle.perm_values.specs.declared.kind.Kind.{Kind}
 use Rattle.perm_values.specs.declared.kind.Kind.TheVariants as kind
+use Rattle.perm_values.proofs.Lists.{back-none}
 use Rattle.bag_algebra.specs.built.Openings.{kinds_of-Project, kinds_of-Distinct}
-use Rattle.bag_algebra.specs.Kinds.{kinds_of}
+use Rattle.bag_algebra.specs.Kinds.{kinds_of, item_kinds}
 use Rattle.bag_algebra.specs.declared.query.Aggr.{Aggr}
 use Rattle.bag_algebra.specs.declared.query.Query.{Query}
 use Rattle.bag_algebra.specs.declared.query.Query.TheVariants.{Project}
 use Rattle.sql_tree.specs.declared.name.ColRef.{ColRef}
+use Rattle.contribution.proofs.WhereGood.{Every, every-append}
 use Rattle.name_meaning.specs.Cores.{settle, settle_known, optional_built, group_break, group_scope, filtered, aggregated_input, distinct_if, core_query, Clauses, list_columns, before_list, clauses_query, core_meant, core_unlooked, core_clauses, clause_breaks, core_over, word_breaks, core_seen}
 use Rattle.name_meaning.specs.Froms.{FromMeant, in_clause, optional_meant, optional_breaks}
 use Rattle.name_meaning.specs.Items.{Made, SelectPart, made_items, named_from, items_breaks}
@@ -19,8 +21,7 @@ use Rattle.name_meaning.specs.Sublinks.{nothing_before}
 use Rattle.name_meaning.specs.declared.answer.Break.{Break}
 use Rattle.name_meaning.specs.declared.scope.Scope.{Scope}
 use Rattle.name_meaning.specs.laws.Facts.{Facts, facts_of, both_facts, sub_facts}
-use Rattle.name_meaning.specs.laws.Known.{item_kinds}
-use Rattle.name_meaning.proofs.Every.{Every, every-append, every-map, back-none}
+use Rattle.name_meaning.proofs.Every.{every-map}
 use Rattle.name_meaning.proofs.FactsOf.{facts-Filter, facts-Project, facts-aggregated, facts-distinct_if}
 use Rattle.name_meaning.proofs.Kept.{GoodQuery}
 use Rattle.name_meaning.proofs.KeptItems.{ListIsKnown, GoodSelect, GoodItem, known-list, steady-list, named-list}

@@ -10,6 +10,7 @@ use Rattle.bag_algebra.specs.Kinds.{kinds_of, shape}
 use Rattle.bag_algebra.specs.WellFormed.{label_width}
 use Rattle.bag_algebra.specs.declared.query.JoinKind.TheVariants as join
 use Rattle.perm_values.specs.declared.kind.Kind.TheVariants as kind
+use Rattle.perm_values.proofs.Lists.{front-none, back-none}
 use Rattle.bag_algebra.specs.declared.query.Label.{Label}
 use Rattle.bag_algebra.specs.declared.query.Label.TheVariants.{Relation, External}
 use Rattle.bag_algebra.specs.declared.query.Query.{Query}
@@ -27,20 +28,21 @@ use Rattle.sql_tree.specs.declared.name.Name.{Name}
 use Rattle.sql_tree.specs.declared.source.JoinWord.{JoinWord}
 use Rattle.sql_tree.specs.declared.source.ScopeMark.{ScopeMark}
 use Rattle.sql_tree.specs.declared.source.ScopeMark.TheVariants as mark
-use Rattle.name_meaning.specs.Froms.{names_of, names_at, all_places, table_columns, settled_columns, named_columns, Read, external, read_table, read_view, read_nothing, read_named, read_query, named_so, place_of, texts_of, marked, mark_breaks, SourcePart, named as named_source, inner as inner_source, ItemMeant, FromItemPart, read_of, read_names, item_meant, FromMeant, JoinPart, FromPart, join_kind, scope_items, both_known, first_item, on_meant, optional_breaks, on_built, joined, applied, join_item, joined_around, joined_item, join_all, beside_from, from_more, from_all, yes, in_on}
+use Rattle.contribution.specs.Conjunctions.{always}
+use Rattle.contribution.proofs.WhereGood.{Every, every-append}
+use Rattle.name_meaning.specs.Froms.{names_of, names_at, all_places, table_columns, settled_columns, named_columns, Read, external, read_table, read_view, read_nothing, read_named, read_query, named_so, place_of, texts_of, marked, mark_breaks, SourcePart, named as named_source, inner as inner_source, ItemMeant, FromItemPart, read_of, read_names, item_meant, FromMeant, JoinPart, FromPart, join_kind, scope_items, both_known, first_item, on_meant, optional_breaks, on_built, joined, applied, join_item, joined_around, joined_item, join_all, beside_from, from_more, from_all, in_on}
 use Rattle.name_meaning.specs.Meanings.{Around, Meant, Part, OutColumn, QueryMeant, broken_if}
 use Rattle.name_meaning.specs.Scopes.{KnownColumn, ScopeItem}
 use Rattle.name_meaning.specs.declared.answer.Break.{Break}
 use Rattle.name_meaning.specs.declared.scope.Scope.{Scope}
 use Rattle.name_meaning.specs.laws.Facts.{Facts, sub_facts}
 use Rattle.name_meaning.specs.laws.Known.{ReadIsKnown, ItemIsKnown, FromIsKnown, column_kinds_of}
-use Rattle.name_meaning.proofs.Every.{Every, every-append, front-none, back-none}
 use Rattle.name_meaning.proofs.FactsOf.{facts-Join_alone, facts-Join, facts-Apply}
 use Rattle.name_meaning.proofs.Kept.{GoodQuery}
 use Rattle.name_meaning.proofs.NamedPlaces.{IsNamed, AreNamed, named-base, named-formed}
-use Rattle.name_meaning.proofs.Settled.{kinds-named_columns}
+use Rattle.name_meaning.proofs.Settled.{kinds-named_columns, settled-kinds}
 use Rattle.name_meaning.specs.declared.rule.Rule.TheVariants as rule
-use Rattle.name_meaning.proofs.KindsOf.{kinds-table_columns, kinds-settled_columns, items_kinds-append, kinds-plain, table_with, kinds-table, kinds-marked}
+use Rattle.name_meaning.proofs.KindsOf.{kinds-table_columns, items_kinds-append, kinds-plain, table_with, kinds-table, kinds-marked}
 use Rattle.name_meaning.proofs.KeptCores.{GoodOptional, GoodOptionalPart}
 use Rattle.name_meaning.specs.Sublinks.{nothing_before}
 
@@ -120,7 +122,7 @@ module _ (c : Contents) where
   good-read_query m good = record {
     known = λ sound whole.
         let query = good.known sound whole in
-        let kinds = query.kinds [] ∙ kinds-settled_columns query.columns in
+        let kinds = query.kinds [] ∙ settled-kinds query.columns in
         record {
           columns = settled_columns query.columns;
           known = ap (option_map settled_columns) query.known;
@@ -265,11 +267,11 @@ module _ (c : Contents) where
         record {
           items = a.items ++ b.items;
           known = known-both left.items right.items a.items b.items a.known b.known;
-          kinds = kinds_of-Join join.Inner left.query right.query yes []
+          kinds = kinds_of-Join join.Inner left.query right.query always []
               ∙ (λ i. a.kinds i ++ b.kinds i)
               ∙ sym (items_kinds-append a.items b.items);
         };
-    named = λ sound. subst (λ (facts : Facts). AreNamed facts.places) (sym (facts-Join_alone join.Inner left.query right.query yes))
+    named = λ sound. subst (λ (facts : Facts). AreNamed facts.places) (sym (facts-Join_alone join.Inner left.query right.query always))
         (every-append IsNamed (shape left.query) (shape right.query) (l.named sound) (r.named sound));
   }
 

@@ -5,16 +5,18 @@ use Rattle.std.specs.Option.{option_map_or}
 use Rattle.std.proofs.lemmas.List.{map-append}
 use Rattle.perm_values.specs.declared.kind.Kind.{Kind}
 use Rattle.perm_values.specs.declared.kind.Kind.TheVariants as kind
+use Rattle.perm_values.proofs.Lists.{front-none, back-none}
+use Rattle.bag_algebra.specs.Kinds.{item_kinds}
 use Rattle.bag_algebra.specs.declared.expr.Item.{Item}
 use Rattle.sql_tree.specs.declared.name.Name.{Name}
+use Rattle.contribution.proofs.WhereGood.{Every}
 use Rattle.name_meaning.specs.Items.{Titled, Made, SelectMeant, SelectPart, titled, column_item, columns_meant, no_columns, star_meant, table_star_meant, first_wanted, value_meant, all_known, width_of_item, made_items, items_breaks}
 use Rattle.name_meaning.specs.Meanings.{Surroundings, Before, Meant, seen_kind, settled}
 use Rattle.name_meaning.specs.Operands.{behind}
 use Rattle.name_meaning.specs.Scopes.{Placed, placed, item_columns}
 use Rattle.name_meaning.specs.declared.scope.Scope.{Scope}
 use Rattle.name_meaning.specs.laws.Facts.{both_facts, sub_facts}
-use Rattle.name_meaning.specs.laws.Known.{item_kinds}
-use Rattle.name_meaning.proofs.Every.{Every, front-none, back-none, whole-kind}
+use Rattle.name_meaning.proofs.Every.{whole-kind}
 use Rattle.name_meaning.proofs.FactsOf.{sub_facts-append}
 use Rattle.name_meaning.proofs.NamedPlaces.{AreNamed}
 use Rattle.name_meaning.proofs.Settled.{settle_titles, settle_titles-append}

@@ -3,19 +3,20 @@ use Rattle.std.specs.Prelude.{◌≡◌, ℕ, ℤ, Bool, true, false, cond, List
 use Rattle.std.proofs.Common.{ap, sym, ◌∙◌, subst}
 use Rattle.perm_values.specs.declared.key.Key.{Key}
 use Rattle.perm_values.specs.declared.kind.Kind.{Kind}
+use Rattle.perm_values.proofs.Lists.{front-none, back-none}
 use Rattle.bag_algebra.specs.built.Openings.{kinds_of-Prov}
 use Rattle.bag_algebra.specs.Kinds.{kinds_of, shape, place_kinds}
 use Rattle.bag_algebra.specs.PlaceNames.{place_names}
 use Rattle.bag_algebra.specs.declared.place.Place.{Place}
 use Rattle.bag_algebra.specs.declared.query.Query.{Query}
 use Rattle.sql_tree.specs.declared.query.OrderTree.{OrderTree}
+use Rattle.contribution.proofs.WhereGood.{Every, every-append}
 use Rattle.name_meaning.specs.Cores.{BodyPart, settle, settle_known}
 use Rattle.name_meaning.specs.Froms.{named_columns}
 use Rattle.name_meaning.specs.Meanings.{Around, OutColumn, QueryMeant}
 use Rattle.name_meaning.specs.Queries.{SetStepPart, united_columns, columns_so_far, operand_breaks, set_joined, may_not_ask, set_chain, keys_of, keys_breaks, limited, out_column, provenance_columns, plain_query, query_with_provenance, asks_provenance, query_seen}
 use Rattle.name_meaning.specs.laws.Facts.{Facts, facts_of, both_facts}
 use Rattle.name_meaning.specs.laws.Known.{HasItsKinds}
-use Rattle.name_meaning.proofs.Every.{Every, every-append, front-none, back-none}
 use Rattle.name_meaning.proofs.FactsOf.{facts-Prov, facts-set, facts-limited}
 use Rattle.name_meaning.proofs.Kept.{GoodQuery}
 use Rattle.name_meaning.proofs.NamedPlaces.{IsNamed, AreNamed, length-place_names}

@@ -4,7 +4,6 @@ use Rattle.std.proofs.Common.{refl, ap, sym, ◌∙◌, append_assoc}
 use Rattle.std.specs.Option.{option_map_or}
 use Rattle.perm_values.specs.declared.key.Key.{Key}
 use Rattle.perm_values.specs.declared.kind.Kind.{Kind}
-use Rattle.perm_values.specs.declared.kind.Kind.TheVariants as kind
 use Rattle.bag_algebra.specs.built.Openings.{kinds_of-Base, kinds_of-Union, kinds_of-Intersect, kinds_of-Except, kinds_of-Limit}
 use Rattle.bag_algebra.specs.Kinds.{kinds_of}
 use Rattle.bag_algebra.specs.declared.query.Label.TheVariants.{Relation, External}
@@ -17,9 +16,8 @@ use Rattle.sql_tree.specs.declared.query.SetWord.{SetWord}
 use Rattle.sql_tree.specs.declared.query.SetWord.TheVariants as word
 use Rattle.sql_tree.specs.declared.source.ScopeMark.{ScopeMark}
 use Rattle.sql_tree.specs.declared.source.ScopeMark.TheVariants as mark
-use Rattle.name_meaning.specs.Cores.{settle}
-use Rattle.name_meaning.specs.Froms.{names_of, names_at, all_places, table_columns, settled_columns, Read, external, place_of, texts_of, marked}
-use Rattle.name_meaning.specs.Meanings.{OutColumn, settled, QueryMeant, is_whole}
+use Rattle.name_meaning.specs.Froms.{names_of, names_at, all_places, table_columns, Read, external, place_of, texts_of, marked}
+use Rattle.name_meaning.specs.Meanings.{OutColumn, QueryMeant, is_whole}
 use Rattle.name_meaning.specs.Queries.{set_of, limited, columns_so_far, united_columns, columns_with_provenance, provenance_columns}
 use Rattle.name_meaning.specs.Scopes.{ScopeItem}
 use Rattle.name_meaning.specs.laws.Known.{column_kinds_of, items_kinds}
@@ -31,10 +29,6 @@ use Rattle.name_meaning.specs.declared.answer.Break.{Break}
 pub kinds-table_columns : (columns : List Column) → column_kinds columns ≡ column_kinds_of (table_columns columns)
 kinds-table_columns [] = refl
 kinds-table_columns (c ∷ columns) = ap (λ (kinds : List Kind). c.kind ∷ kinds) (kinds-table_columns columns)
-
-pub kinds-settled_columns : (columns : List OutColumn) → settle columns [] ≡ column_kinds_of (settled_columns columns)
-kinds-settled_columns [] = refl
-kinds-settled_columns (c ∷ columns) = ap (λ (kinds : List Kind). settled c.kind kind.Text ∷ kinds) (kinds-settled_columns columns)
 
 pub items_kinds-append : (xs ys : List ScopeItem) → items_kinds (xs ++ ys) ≡ items_kinds xs ++ items_kinds ys
 items_kinds-append [] ys = refl

@@ -1,10 +1,10 @@
 -- What a join is, by whether its subquery sees the row on the left.
 use Rattle.std.specs.Prelude.{◌≡◌, Bool, true, false, cond, List, [], ◌++◌}
 use Rattle.std.proofs.Common.{refl, ap}
+use Rattle.perm_values.proofs.Lists.{front-none}
 use Rattle.sql_tree.specs.Regular.{is_lateral}
 use Rattle.name_meaning.specs.Froms.{FromMeant, ItemMeant, JoinPart, applied, beside_items, both_known, in_from, join_item, joined, joined_item, on_meant, optional_breaks, scope_items}
 use Rattle.name_meaning.specs.declared.scope.Scope.{Scope}
-use Rattle.name_meaning.proofs.Every.{front-none}
 
 -- one that isn't lateral
 abbrev pub plainly : List Scope → FromMeant → JoinPart → ItemMeant → FromMeant

@@ -22,6 +22,7 @@ mod Holding
 pub mod Impacts
 pub mod Induction
 mod Items
+pub mod Joins
 mod Kept
 mod KeptCores
 mod KeptFroms
@@ -32,7 +33,7 @@ pub mod KindsOf
 pub mod Lateral
 pub mod Named
 mod NamedPlaces
-mod Needs
+pub mod Needs
 pub mod Opened
 mod Queries
 mod ReadCores

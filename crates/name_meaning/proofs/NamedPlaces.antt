@@ -12,7 +12,7 @@ use Rattle.bag_algebra.specs.declared.query.Label.{Label}
 use Rattle.bag_algebra.specs.declared.query.Label.TheVariants.{Relation, External}
 use Rattle.bag_algebra.specs.declared.query.Query.{Query, Row_of-Sublink, more_of-Sublink, end_of-Sublink}
 use Rattle.bag_algebra.specs.declared.query.Query.TheVariants.{Table, Single}
-use Rattle.name_meaning.proofs.Every.{Every, every-append}
+use Rattle.contribution.proofs.WhereGood.{Every, every-append}
 
 abbrev pub IsNamed : Place → Type 0
 IsNamed place = label_width place.label ≡ length place.kinds

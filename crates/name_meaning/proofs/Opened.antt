@@ -2,6 +2,7 @@
 use Rattle.std.specs.Prelude.{◌≡◌, ℕ, Bool, List, map, Option, Some, None, option_map}
 use Rattle.std.proofs.Common.{sym, ap, ◌∙◌}
 use Rattle.perm_catalog.specs.Contents.{Contents}
+use Rattle.sql_tree.specs.Regular.{BodyLayer, ItemLayer, SetLayer, SourceLayer}
 use Rattle.sql_tree.specs.declared.expression.ExprBody.{ExprBody, out-ExprBody}
 use Rattle.sql_tree.specs.declared.query.SelectItem.{SelectItem, out-SelectItem}
 use Rattle.sql_tree.specs.declared.query.SetTree.{SetTree, out-SetTree}
@@ -16,7 +17,7 @@ use Rattle.sql_tree.specs.declared.source.FromItem.{FromItem}
 use Rattle.sql_tree.specs.declared.source.FromTree.{FromTree, out-FromTree}
 use Rattle.sql_tree.specs.declared.source.JoinStep.{JoinStep, out-JoinStep, roll-JoinStep}
 use Rattle.sql_tree.specs.declared.expression.ExprBody.TheFolds.{map-ExprBody, map-SelectItem, map-SetTree, map-FromSource, map-Core, map-FromTree, map-JoinStep, fold-roll-ExprBody, fold-roll-SelectItem, fold-roll-SetTree, fold-roll-FromSource, fold-roll-ArmTree, fold-roll-ExprStep, fold-roll-ExprTree, fold-roll-Core, fold-roll-QueryTree, fold-roll-SetStep, fold-roll-FromItem, fold-roll-FromTree, fold-roll-JoinStep, map-ArmTree, map-ExprStep, map-ExprTree, map-QueryTree, map-SetStep, map-FromItem}
-use Rattle.sql_tree.specs.declared.expression.ExprBody.TheOpen.{ExprBody-F, SelectItem-F, SetTree-F, FromSource-F, ArmTree-F, ExprStep-F, ExprTree-F, Core-F, QueryTree-F, SetStep-F, FromItem-F, FromTree-F, JoinStep-F}
+use Rattle.sql_tree.specs.declared.expression.ExprBody.TheOpen.{ArmTree-F, ExprStep-F, ExprTree-F, Core-F, QueryTree-F, SetStep-F, FromItem-F, FromTree-F, JoinStep-F}
 use Rattle.sql_tree.specs.declared.expression.ExprBody.TheViews.{roll-out-ExprBody, roll-out-SelectItem, roll-out-SetTree, roll-out-FromSource, roll-out-Core, roll-out-FromTree, roll-out-JoinStep}
 use Rattle.name_meaning.proofs.Equations.{ExprBodyFrame, SelectItemFrame, SetTreeFrame, FromSourceFrame, ArmTreeFrame, ExprStepFrame, ExprTreeFrame, CoreFrame, QueryTreeFrame, SetStepFrame, FromItemFrame, FromTreeFrame, JoinStepFrame, token, core-record-none-none, core-record-none-some, core-record-some-none, core-record-some-some, joinstep-record-none, joinstep-record-some}
 use Rattle.name_meaning.specs.Cores.{BodyPart, core_step}
@@ -29,10 +30,7 @@ use Rattle.name_meaning.specs.Trees.{body_of, item_of, set_of_tree, source_of, a
 use Rattle.sql_tree.specs.declared.name.ColRef.{ColRef}
 use Rattle.sql_tree.specs.declared.source.JoinWord.{JoinWord}
 
-abbrev pub Layer_body : Type 0
-Layer_body = ExprBody-F ExprBody SelectItem SetTree FromSource ArmTree ExprStep ExprTree Core QueryTree SetStep FromItem FromTree JoinStep
-
-abbrev pub shown_body : Contents → Layer_body → ExprBodyFrame
+abbrev pub shown_body : Contents → BodyLayer → ExprBodyFrame
 shown_body c layer = map-ExprBody ExprBody SelectItem SetTree FromSource ArmTree ExprStep ExprTree Core QueryTree SetStep FromItem FromTree JoinStep
     Body SelectPart BodyPart SourcePart ArmPart StepPart Part BodyPart QueryPart SetStepPart FromItemPart FromPart JoinPart
     (body_of c) (item_of c) (set_of_tree c) (source_of c) (arm_of c) (step_of c) (part_of c) (core_of c) (query_of c) (set_step_of c) (from_item_of c) (from_of c) (join_of c) layer
@@ -42,10 +40,7 @@ unfolding body_of item_of set_of_tree source_of arm_of step_of part_of core_of q
 opened_body c tree = ap (body_of c) (sym (roll-out-ExprBody tree)) ∙ fold-roll-ExprBody Body SelectPart BodyPart SourcePart ArmPart StepPart Part BodyPart QueryPart SetStepPart FromItemPart FromPart JoinPart
     body_step item_step set_step source_step arm_step step_step expr_step core_step query_step set_step_step (from_item_step c) from_step join_step (out-ExprBody tree)
 
-abbrev pub Layer_item : Type 0
-Layer_item = SelectItem-F ExprBody SelectItem SetTree FromSource ArmTree ExprStep ExprTree Core QueryTree SetStep FromItem FromTree JoinStep
-
-abbrev pub shown_item : Contents → Layer_item → SelectItemFrame
+abbrev pub shown_item : Contents → ItemLayer → SelectItemFrame
 shown_item c layer = map-SelectItem ExprBody SelectItem SetTree FromSource ArmTree ExprStep ExprTree Core QueryTree SetStep FromItem FromTree JoinStep
     Body SelectPart BodyPart SourcePart ArmPart StepPart Part BodyPart QueryPart SetStepPart FromItemPart FromPart JoinPart
     (body_of c) (item_of c) (set_of_tree c) (source_of c) (arm_of c) (step_of c) (part_of c) (core_of c) (query_of c) (set_step_of c) (from_item_of c) (from_of c) (join_of c) layer
@@ -55,10 +50,7 @@ unfolding body_of item_of set_of_tree source_of arm_of step_of part_of core_of q
 opened_item c tree = ap (item_of c) (sym (roll-out-SelectItem tree)) ∙ fold-roll-SelectItem Body SelectPart BodyPart SourcePart ArmPart StepPart Part BodyPart QueryPart SetStepPart FromItemPart FromPart JoinPart
     body_step item_step set_step source_step arm_step step_step expr_step core_step query_step set_step_step (from_item_step c) from_step join_step (out-SelectItem tree)
 
-abbrev pub Layer_set : Type 0
-Layer_set = SetTree-F ExprBody SelectItem SetTree FromSource ArmTree ExprStep ExprTree Core QueryTree SetStep FromItem FromTree JoinStep
-
-abbrev pub shown_set : Contents → Layer_set → SetTreeFrame
+abbrev pub shown_set : Contents → SetLayer → SetTreeFrame
 shown_set c layer = map-SetTree ExprBody SelectItem SetTree FromSource ArmTree ExprStep ExprTree Core QueryTree SetStep FromItem FromTree JoinStep
     Body SelectPart BodyPart SourcePart ArmPart StepPart Part BodyPart QueryPart SetStepPart FromItemPart FromPart JoinPart
     (body_of c) (item_of c) (set_of_tree c) (source_of c) (arm_of c) (step_of c) (part_of c) (core_of c) (query_of c) (set_step_of c) (from_item_of c) (from_of c) (join_of c) layer
@@ -68,10 +60,7 @@ unfolding body_of item_of set_of_tree source_of arm_of step_of part_of core_of q
 opened_set c tree = ap (set_of_tree c) (sym (roll-out-SetTree tree)) ∙ fold-roll-SetTree Body SelectPart BodyPart SourcePart ArmPart StepPart Part BodyPart QueryPart SetStepPart FromItemPart FromPart JoinPart
     body_step item_step set_step source_step arm_step step_step expr_step core_step query_step set_step_step (from_item_step c) from_step join_step (out-SetTree tree)
 
-abbrev pub Layer_source : Type 0
-Layer_source = FromSource-F ExprBody SelectItem SetTree FromSource ArmTree ExprStep ExprTree Core QueryTree SetStep FromItem FromTree JoinStep
-
-abbrev pub shown_source : Contents → Layer_source → FromSourceFrame
+abbrev pub shown_source : Contents → SourceLayer → FromSourceFrame
 shown_source c layer = map-FromSource ExprBody SelectItem SetTree FromSource ArmTree ExprStep ExprTree Core QueryTree SetStep FromItem FromTree JoinStep
     Body SelectPart BodyPart SourcePart ArmPart StepPart Part BodyPart QueryPart SetStepPart FromItemPart FromPart JoinPart
     (body_of c) (item_of c) (set_of_tree c) (source_of c) (arm_of c) (step_of c) (part_of c) (core_of c) (query_of c) (set_step_of c) (from_item_of c) (from_of c) (join_of c) layer
@@ -81,10 +70,10 @@ unfolding body_of item_of set_of_tree source_of arm_of step_of part_of core_of q
 opened_source c tree = ap (source_of c) (sym (roll-out-FromSource tree)) ∙ fold-roll-FromSource Body SelectPart BodyPart SourcePart ArmPart StepPart Part BodyPart QueryPart SetStepPart FromItemPart FromPart JoinPart
     body_step item_step set_step source_step arm_step step_step expr_step core_step query_step set_step_step (from_item_step c) from_step join_step (out-FromSource tree)
 
-abbrev pub Layer_core : Type 0
-Layer_core = Core-F ExprBody SelectItem SetTree FromSource ArmTree ExprStep ExprTree Core QueryTree SetStep FromItem FromTree JoinStep
+abbrev pub CoreLayer : Type 0
+CoreLayer = Core-F ExprBody SelectItem SetTree FromSource ArmTree ExprStep ExprTree Core QueryTree SetStep FromItem FromTree JoinStep
 
-abbrev pub shown_core : Contents → Layer_core → CoreFrame
+abbrev pub shown_core : Contents → CoreLayer → CoreFrame
 shown_core c layer = map-Core ExprBody SelectItem SetTree FromSource ArmTree ExprStep ExprTree Core QueryTree SetStep FromItem FromTree JoinStep
     Body SelectPart BodyPart SourcePart ArmPart StepPart Part BodyPart QueryPart SetStepPart FromItemPart FromPart JoinPart
     (body_of c) (item_of c) (set_of_tree c) (source_of c) (arm_of c) (step_of c) (part_of c) (core_of c) (query_of c) (set_step_of c) (from_item_of c) (from_of c) (join_of c) layer
@@ -94,10 +83,10 @@ unfolding body_of item_of set_of_tree source_of arm_of step_of part_of core_of q
 opened_core c tree = ap (core_of c) (sym (roll-out-Core tree)) ∙ fold-roll-Core Body SelectPart BodyPart SourcePart ArmPart StepPart Part BodyPart QueryPart SetStepPart FromItemPart FromPart JoinPart
     body_step item_step set_step source_step arm_step step_step expr_step core_step query_step set_step_step (from_item_step c) from_step join_step (out-Core tree)
 
-abbrev pub Layer_from : Type 0
-Layer_from = FromTree-F ExprBody SelectItem SetTree FromSource ArmTree ExprStep ExprTree Core QueryTree SetStep FromItem FromTree JoinStep
+abbrev pub FromLayer : Type 0
+FromLayer = FromTree-F ExprBody SelectItem SetTree FromSource ArmTree ExprStep ExprTree Core QueryTree SetStep FromItem FromTree JoinStep
 
-abbrev pub shown_from : Contents → Layer_from → FromTreeFrame
+abbrev pub shown_from : Contents → FromLayer → FromTreeFrame
 shown_from c layer = map-FromTree ExprBody SelectItem SetTree FromSource ArmTree ExprStep ExprTree Core QueryTree SetStep FromItem FromTree JoinStep
     Body SelectPart BodyPart SourcePart ArmPart StepPart Part BodyPart QueryPart SetStepPart FromItemPart FromPart JoinPart
     (body_of c) (item_of c) (set_of_tree c) (source_of c) (arm_of c) (step_of c) (part_of c) (core_of c) (query_of c) (set_step_of c) (from_item_of c) (from_of c) (join_of c) layer
@@ -107,10 +96,10 @@ unfolding body_of item_of set_of_tree source_of arm_of step_of part_of core_of q
 opened_from c tree = ap (from_of c) (sym (roll-out-FromTree tree)) ∙ fold-roll-FromTree Body SelectPart BodyPart SourcePart ArmPart StepPart Part BodyPart QueryPart SetStepPart FromItemPart FromPart JoinPart
     body_step item_step set_step source_step arm_step step_step expr_step core_step query_step set_step_step (from_item_step c) from_step join_step (out-FromTree tree)
 
-abbrev pub Layer_join : Type 0
-Layer_join = JoinStep-F ExprBody SelectItem SetTree FromSource ArmTree ExprStep ExprTree Core QueryTree SetStep FromItem FromTree JoinStep
+abbrev pub JoinLayer : Type 0
+JoinLayer = JoinStep-F ExprBody SelectItem SetTree FromSource ArmTree ExprStep ExprTree Core QueryTree SetStep FromItem FromTree JoinStep
 
-abbrev pub shown_join : Contents → Layer_join → JoinStepFrame
+abbrev pub shown_join : Contents → JoinLayer → JoinStepFrame
 shown_join c layer = map-JoinStep ExprBody SelectItem SetTree FromSource ArmTree ExprStep ExprTree Core QueryTree SetStep FromItem FromTree JoinStep
     Body SelectPart BodyPart SourcePart ArmPart StepPart Part BodyPart QueryPart SetStepPart FromItemPart FromPart JoinPart
     (body_of c) (item_of c) (set_of_tree c) (source_of c) (arm_of c) (step_of c) (part_of c) (core_of c) (query_of c) (set_step_of c) (from_item_of c) (from_of c) (join_of c) layer
@@ -120,50 +109,50 @@ unfolding body_of item_of set_of_tree source_of arm_of step_of part_of core_of q
 opened_join c tree = ap (join_of c) (sym (roll-out-JoinStep tree)) ∙ fold-roll-JoinStep Body SelectPart BodyPart SourcePart ArmPart StepPart Part BodyPart QueryPart SetStepPart FromItemPart FromPart JoinPart
     body_step item_step set_step source_step arm_step step_step expr_step core_step query_step set_step_step (from_item_step c) from_step join_step (out-JoinStep tree)
 
-abbrev pub Layer_arm : Type 0
-Layer_arm = ArmTree-F ExprBody SelectItem SetTree FromSource ArmTree ExprStep ExprTree Core QueryTree SetStep FromItem FromTree JoinStep
+abbrev pub ArmLayer : Type 0
+ArmLayer = ArmTree-F ExprBody SelectItem SetTree FromSource ArmTree ExprStep ExprTree Core QueryTree SetStep FromItem FromTree JoinStep
 
-abbrev pub shown_arm : Contents → Layer_arm → ArmTreeFrame
+abbrev pub shown_arm : Contents → ArmLayer → ArmTreeFrame
 shown_arm c layer = map-ArmTree ExprBody SelectItem SetTree FromSource ArmTree ExprStep ExprTree Core QueryTree SetStep FromItem FromTree JoinStep
     Body SelectPart BodyPart SourcePart ArmPart StepPart Part BodyPart QueryPart SetStepPart FromItemPart FromPart JoinPart
     (body_of c) (item_of c) (set_of_tree c) (source_of c) (arm_of c) (step_of c) (part_of c) (core_of c) (query_of c) (set_step_of c) (from_item_of c) (from_of c) (join_of c) layer
 
-abbrev pub Layer_step : Type 0
-Layer_step = ExprStep-F ExprBody SelectItem SetTree FromSource ArmTree ExprStep ExprTree Core QueryTree SetStep FromItem FromTree JoinStep
+abbrev pub StepLayer : Type 0
+StepLayer = ExprStep-F ExprBody SelectItem SetTree FromSource ArmTree ExprStep ExprTree Core QueryTree SetStep FromItem FromTree JoinStep
 
-abbrev pub shown_step : Contents → Layer_step → ExprStepFrame
+abbrev pub shown_step : Contents → StepLayer → ExprStepFrame
 shown_step c layer = map-ExprStep ExprBody SelectItem SetTree FromSource ArmTree ExprStep ExprTree Core QueryTree SetStep FromItem FromTree JoinStep
     Body SelectPart BodyPart SourcePart ArmPart StepPart Part BodyPart QueryPart SetStepPart FromItemPart FromPart JoinPart
     (body_of c) (item_of c) (set_of_tree c) (source_of c) (arm_of c) (step_of c) (part_of c) (core_of c) (query_of c) (set_step_of c) (from_item_of c) (from_of c) (join_of c) layer
 
-abbrev pub Layer_part : Type 0
-Layer_part = ExprTree-F ExprBody SelectItem SetTree FromSource ArmTree ExprStep ExprTree Core QueryTree SetStep FromItem FromTree JoinStep
+abbrev pub PartLayer : Type 0
+PartLayer = ExprTree-F ExprBody SelectItem SetTree FromSource ArmTree ExprStep ExprTree Core QueryTree SetStep FromItem FromTree JoinStep
 
-abbrev pub shown_part : Contents → Layer_part → ExprTreeFrame
+abbrev pub shown_part : Contents → PartLayer → ExprTreeFrame
 shown_part c layer = map-ExprTree ExprBody SelectItem SetTree FromSource ArmTree ExprStep ExprTree Core QueryTree SetStep FromItem FromTree JoinStep
     Body SelectPart BodyPart SourcePart ArmPart StepPart Part BodyPart QueryPart SetStepPart FromItemPart FromPart JoinPart
     (body_of c) (item_of c) (set_of_tree c) (source_of c) (arm_of c) (step_of c) (part_of c) (core_of c) (query_of c) (set_step_of c) (from_item_of c) (from_of c) (join_of c) layer
 
-abbrev pub Layer_query : Type 0
-Layer_query = QueryTree-F ExprBody SelectItem SetTree FromSource ArmTree ExprStep ExprTree Core QueryTree SetStep FromItem FromTree JoinStep
+abbrev pub QueryLayer : Type 0
+QueryLayer = QueryTree-F ExprBody SelectItem SetTree FromSource ArmTree ExprStep ExprTree Core QueryTree SetStep FromItem FromTree JoinStep
 
-abbrev pub shown_query : Contents → Layer_query → QueryTreeFrame
+abbrev pub shown_query : Contents → QueryLayer → QueryTreeFrame
 shown_query c layer = map-QueryTree ExprBody SelectItem SetTree FromSource ArmTree ExprStep ExprTree Core QueryTree SetStep FromItem FromTree JoinStep
     Body SelectPart BodyPart SourcePart ArmPart StepPart Part BodyPart QueryPart SetStepPart FromItemPart FromPart JoinPart
     (body_of c) (item_of c) (set_of_tree c) (source_of c) (arm_of c) (step_of c) (part_of c) (core_of c) (query_of c) (set_step_of c) (from_item_of c) (from_of c) (join_of c) layer
 
-abbrev pub Layer_set_step : Type 0
-Layer_set_step = SetStep-F ExprBody SelectItem SetTree FromSource ArmTree ExprStep ExprTree Core QueryTree SetStep FromItem FromTree JoinStep
+abbrev pub SetStepLayer : Type 0
+SetStepLayer = SetStep-F ExprBody SelectItem SetTree FromSource ArmTree ExprStep ExprTree Core QueryTree SetStep FromItem FromTree JoinStep
 
-abbrev pub shown_set_step : Contents → Layer_set_step → SetStepFrame
+abbrev pub shown_set_step : Contents → SetStepLayer → SetStepFrame
 shown_set_step c layer = map-SetStep ExprBody SelectItem SetTree FromSource ArmTree ExprStep ExprTree Core QueryTree SetStep FromItem FromTree JoinStep
     Body SelectPart BodyPart SourcePart ArmPart StepPart Part BodyPart QueryPart SetStepPart FromItemPart FromPart JoinPart
     (body_of c) (item_of c) (set_of_tree c) (source_of c) (arm_of c) (step_of c) (part_of c) (core_of c) (query_of c) (set_step_of c) (from_item_of c) (from_of c) (join_of c) layer
 
-abbrev pub Layer_from_item : Type 0
-Layer_from_item = FromItem-F ExprBody SelectItem SetTree FromSource ArmTree ExprStep ExprTree Core QueryTree SetStep FromItem FromTree JoinStep
+abbrev pub FromItemLayer : Type 0
+FromItemLayer = FromItem-F ExprBody SelectItem SetTree FromSource ArmTree ExprStep ExprTree Core QueryTree SetStep FromItem FromTree JoinStep
 
-abbrev pub shown_from_item : Contents → Layer_from_item → FromItemFrame
+abbrev pub shown_from_item : Contents → FromItemLayer → FromItemFrame
 shown_from_item c layer = map-FromItem ExprBody SelectItem SetTree FromSource ArmTree ExprStep ExprTree Core QueryTree SetStep FromItem FromTree JoinStep
     Body SelectPart BodyPart SourcePart ArmPart StepPart Part BodyPart QueryPart SetStepPart FromItemPart FromPart JoinPart
     (body_of c) (item_of c) (set_of_tree c) (source_of c) (arm_of c) (step_of c) (part_of c) (core_of c) (query_of c) (set_step_of c) (from_item_of c) (from_of c) (join_of c) layer
@@ -254,7 +243,7 @@ core-is c tree =
 abbrev pub frame_join : Contents → JoinWord → FromItem → Option ExprTree → JoinStepFrame
 frame_join c word item condition = record { word = word; item = from_item_of c item; condition = option_map (part_of c) condition }
 
-join-record : (c : Contents) (word : JoinWord) (item : FromItem) (condition : Option ExprTree)
+pub join-record : (c : Contents) (word : JoinWord) (item : FromItem) (condition : Option ExprTree)
     → join_of c (roll-JoinStep (record { word = word; item = item; condition = condition })) ≡ join_step (frame_join c word item condition)
 unfolding token
 join-record c word item None = joinstep-record-none c word item

@@ -4,13 +4,16 @@ use Rattle.std.proofs.Common.{refl, ap, sym, ◌∙◌, subst, true≢false, ari
 use Rattle.std.proofs.lemmas.List.{length-append}
 use Rattle.std.proofs.lemmas.List.Elements.{All-nil, All-cons}
 use Rattle.std.specs.List.{count_by, AllByRecursion as Every}
+use Rattle.perm_values.specs.Rows.{KeysWithin, PlacesWithin}
 use Rattle.perm_values.specs.declared.key.Key.{Key}
 use Rattle.perm_values.specs.declared.kind.Kind.{Kind}
 use Rattle.perm_values.specs.declared.kind.Kind.TheVariants.{Text}
+use Rattle.perm_values.proofs.Lists.{front-none, back-none}
+use Rattle.perm_values.proofs.Steps.{by}
 use Rattle.bag_algebra.specs.built.Openings.{kinds_of-Prov}
 use Rattle.bag_algebra.specs.built.Forms.{WellFormed-Union, WellFormed-Intersect, WellFormed-Except, WellFormed-Limit, WellFormed-Prov}
 use Rattle.bag_algebra.specs.Kinds.{kinds_of, width_of, shape, place_kinds}
-use Rattle.bag_algebra.specs.WellFormed.{WellFormed, PlacesIn, KeysIn}
+use Rattle.bag_algebra.specs.WellFormed.{WellFormed}
 use Rattle.bag_algebra.specs.declared.query.Query.{Query}
 use Rattle.bag_algebra.specs.declared.query.Query.TheVariants.{Prov}
 use Rattle.sql_tree.specs.Regular.{IfThere, IsTokenNumber}
@@ -25,10 +28,9 @@ use Rattle.name_meaning.specs.Queries.{SetStepPart, set_of, united_columns, do_u
 use Rattle.name_meaning.specs.declared.answer.Break.{Break}
 use Rattle.name_meaning.specs.laws.Known.{HasItsKinds}
 use Rattle.name_meaning.specs.laws.Standing.{RowsHold}
-use Rattle.name_meaning.proofs.Cores.{by}
 use Rattle.name_meaning.proofs.Froms.{range-in, position-in}
 use Rattle.name_meaning.specs.declared.rule.Rule.TheVariants as rule
-use Rattle.name_meaning.proofs.Every.{front-none, back-none, unbroken, unbroken-not}
+use Rattle.name_meaning.proofs.Every.{unbroken, unbroken-not}
 use Rattle.name_meaning.proofs.KindsOf.{kinds-set, kinds-limited}
 use Rattle.name_meaning.proofs.Settled.{both-same, settle-united, settled-second}
 use Rattle.bag_algebra.proofs.Truths.{left-true, right-true}
@@ -156,7 +158,7 @@ key-in columns (named_key name) at descending whole =
     (front-none (broken_if (nat_eq (count_by (is_named name) columns) 0) rule.UnknownColumn at) (broken_if (nat_lt 1 (count_by (is_named name) columns)) rule.AmbiguousColumn at) whole))
 key-in columns (Position n) at descending whole = position-is n (length columns) (unbroken (is_position n (length columns)) rule.UnknownColumn at whole)
 
-keys-in : (columns : List OutColumn) (order : List OrderTree) → flat_map (key_break columns) order ≡ [] → KeysIn (length columns) (map (key_of columns) order)
+keys-in : (columns : List OutColumn) (order : List OrderTree) → flat_map (key_break columns) order ≡ [] → KeysWithin (length columns) (map (key_of columns) order)
 keys-in columns [] whole = All-nil _
 keys-in columns (tree ∷ order) whole =
     All-cons (λ (key : Key). key.place < length columns) (key_of columns tree) (map (key_of columns) order)
@@ -165,13 +167,13 @@ keys-in columns (tree ∷ order) whole =
 
 -- the keys of a body with these columns
 keys_of-in : (body : QueryMeant) (order : List OrderTree) (known : HasItsKinds body) → keys_breaks body.columns order ≡ []
-    → KeysIn (length known.columns) (keys_of body.columns order)
+    → KeysWithin (length known.columns) (keys_of body.columns order)
 keys_of-in body order known whole =
-    subst (λ (columns : Option (List OutColumn)). KeysIn (length known.columns) (keys_of columns order)) (sym known.known)
+    subst (λ (columns : Option (List OutColumn)). KeysWithin (length known.columns) (keys_of columns order)) (sym known.known)
     (keys-in known.columns order (subst (λ (columns : Option (List OutColumn)). keys_breaks columns order ≡ []) known.known whole))
 
 formed-limited : (rows : List (List Kind)) (limit : Option ℤ) (keys : List Key) (query : Query) → IfThere IsTokenNumber limit → WellFormed rows query
-    → KeysIn (width_of query) keys → WellFormed rows (limited limit keys query)
+    → KeysWithin (width_of query) keys → WellFormed rows (limited limit keys query)
 formed-limited rows None keys query fits f k = f
 formed-limited rows (Some n) keys query fits f k =
     by (sym (WellFormed-Limit rows query keys (nat_abs n))) (record { input = f; keys = k; bound = (fits n refl).1 })
@@ -181,10 +183,10 @@ formed-limited rows (Some n) keys query fits f k =
 -- a whole query: also its keys are among its columns
 pub record GoodQueryMeant (around : Around) (m : QueryMeant) : Type 0 where
   pub formed : m.breaks ≡ [] → (rows : List (List Kind)) → RowsHold around.outer rows → (wanted : List Kind) → WellFormed rows (m.make wanted)
-  pub places : m.breaks ≡ [] → IfSome m.places (PlacesIn (width_of (m.make [])))
-  pub keys : m.breaks ≡ [] → (wanted : List Kind) → KeysIn (width_of (m.make wanted)) m.keys
+  pub places : m.breaks ≡ [] → IfSome m.places (PlacesWithin (width_of (m.make [])))
+  pub keys : m.breaks ≡ [] → (wanted : List Kind) → KeysWithin (width_of (m.make wanted)) m.keys
 
-keys-wider : (narrow wide : ℕ) (keys : List Key) → narrow ≤ wide → KeysIn narrow keys → KeysIn wide keys
+keys-wider : (narrow wide : ℕ) (keys : List Key) → narrow ≤ wide → KeysWithin narrow keys → KeysWithin wide keys
 keys-wider narrow wide keys le h = λ k d i. let own = h k d i in omega (arith, le, own)
 
 width-made : (body : QueryMeant) (known : HasItsKinds body) (wanted : List Kind) → width_of (body.make wanted) ≡ length known.columns
@@ -195,7 +197,7 @@ formed-body : (body : QueryMeant) (order : List OrderTree) (limit : Option ℤ) 
     → WellFormed rows (limited limit (keys_of body.columns order) (body.make wanted))
 formed-body body order limit known rows wanted fits f whole =
     formed-limited rows limit (keys_of body.columns order) (body.make wanted) fits f
-    (subst (λ w. KeysIn w (keys_of body.columns order)) (sym (width-made body known wanted)) (keys_of-in body order known whole))
+    (subst (λ w. KeysWithin w (keys_of body.columns order)) (sym (width-made body known wanted)) (keys_of-in body order known whole))
 
 good-plain : (around : Around) (at : ℕ) (body : QueryMeant) (order : List OrderTree) (limit : Option ℤ) → IfThere IsTokenNumber limit → GoodBodyMeant around body
     → GoodQueryMeant around (plain_query at body order limit)
@@ -209,7 +211,7 @@ good-plain around at body order limit fits good =
       places = λ whole. tt;
       keys = λ whole wanted.
           let known = good.known (front-none body.breaks own whole) in
-          subst (λ w. KeysIn w keys) (sym (ap length (kinds-limited limit keys (body.make wanted)) ∙ width-made body known wanted))
+          subst (λ w. KeysWithin w keys) (sym (ap length (kinds-limited limit keys (body.make wanted)) ∙ width-made body known wanted))
           (keys_of-in body order known (back-none body.breaks own whole));
     }
 

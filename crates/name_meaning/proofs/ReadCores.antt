@@ -13,6 +13,7 @@ use Rattle.sql_tree.specs.declared.name.ColRef.{ColRef}
 use Rattle.sql_tree.specs.declared.query.OrderTree.{OrderTree}
 use Rattle.sql_tree.specs.declared.query.SetWord.{SetWord}
 use Rattle.sql_tree.specs.declared.query.SetWord.TheVariants as word
+use Rattle.contribution.proofs.WhereGood.{Every}
 use Rattle.name_meaning.specs.Cores.{BodyPart, settle_known, optional_built, group_scope, filtered, aggregated_input, distinct_if, Clauses, list_columns, before_list, core_unlooked, core_clauses, core_over, word_breaks, core_seen}
 use Rattle.name_meaning.specs.Froms.{FromMeant, in_clause, optional_meant, optional_inside}
 use Rattle.name_meaning.specs.Items.{Made, SelectPart, made_items, items_inside}
@@ -22,7 +23,7 @@ use Rattle.name_meaning.specs.Scopes.{ScopeItem, scope_of}
 use Rattle.name_meaning.specs.Sublinks.{nothing_before}
 use Rattle.name_meaning.specs.declared.answer.Break.{Break}
 use Rattle.name_meaning.specs.declared.scope.Scope.{Scope}
-use Rattle.name_meaning.proofs.Every.{Every, every-map}
+use Rattle.name_meaning.proofs.Every.{every-map}
 use Rattle.name_meaning.proofs.ReadMeant.{QueryReads, PartReads, SelectReads, ItemReads, reads-list}
 use Rattle.name_meaning.proofs.ReadNodes.{Grows, wide-left, wide-right, subs-left, subs-right, reads-Filter, reads-Project, reads-Union, reads-Intersect, reads-Except, reads-Distinct, reads-Aggregate, reads-Limit, reads-Prov}
 

@@ -20,16 +20,17 @@ use Rattle.sql_tree.specs.declared.name.Name.{Name}
 use Rattle.sql_tree.specs.declared.source.JoinWord.{JoinWord}
 use Rattle.sql_tree.specs.declared.source.ScopeMark.{ScopeMark}
 use Rattle.sql_tree.specs.declared.source.ScopeMark.TheVariants as mark
-use Rattle.name_meaning.specs.Froms.{names_of, names_at, all_places, table_columns, settled_columns, Read, external, read_table, read_view, read_nothing, read_named, read_query, place_of, texts_of, marked, SourcePart, named as named_source, inner as inner_source, ItemMeant, FromItemPart, read_of, read_names, item_meant, FromMeant, JoinPart, FromPart, join_kind, both_known, scope_items, on_meant, on_built, joined, applied, join_item, joined_around, joined_item, join_all, beside_from, from_more, from_all, yes, in_on, optional_inside}
+use Rattle.name_meaning.specs.Froms.{names_of, names_at, all_places, table_columns, settled_columns, Read, external, read_table, read_view, read_nothing, read_named, read_query, place_of, texts_of, marked, SourcePart, named as named_source, inner as inner_source, ItemMeant, FromItemPart, read_of, read_names, item_meant, FromMeant, JoinPart, FromPart, join_kind, both_known, scope_items, on_meant, on_built, joined, applied, join_item, joined_around, joined_item, join_all, beside_from, from_more, from_all, in_on, optional_inside}
 use Rattle.name_meaning.specs.Meanings.{Around, Meant, Part, QueryMeant, nothing_inside}
 use Rattle.name_meaning.specs.Scopes.{ScopeItem}
 use Rattle.name_meaning.specs.declared.scope.Scope.{Scope}
-use Rattle.name_meaning.proofs.Every.{Every}
 use Rattle.name_meaning.proofs.ReadMeant.{QueryReads, QueryPartReads}
 use Rattle.name_meaning.proofs.ReadNodes.{Grows, wide-left, wide-right, reads-Base, reads-Join, reads-Apply, subs-right}
 use Rattle.name_meaning.proofs.ReadCores.{OptionalReads}
 use Rattle.name_meaning.specs.Sublinks.{nothing_before}
 use Rattle.bag_algebra.specs.built.Forms.{EachTableOfSubs}
+use Rattle.contribution.specs.Conjunctions.{always}
+use Rattle.contribution.proofs.WhereGood.{Every}
 
 module _ (P : List (List ℕ) → ℕ → List Kind → Type 0) (g : Grows P) where
   -- it holds of the tables that the catalog holds, and of those that its views read
@@ -166,7 +167,7 @@ module _ (P : List (List ℕ) → ℕ → List Kind → Type 0) (g : Grows P) wh
   reads-beside left right l r =
       let of_left : List (List ℕ) = left.inside.names in
       let of_right : List (List ℕ) = right.inside.names in
-      reads-Join (P (of_left ++ of_right)) join.Inner left.query right.query yes [] (wide-left P g of_left of_right left.query l) (wide-right P g of_left of_right right.query r) tt
+      reads-Join (P (of_left ++ of_right)) join.Inner left.query right.query always [] (wide-left P g of_left of_right left.query l) (wide-right P g of_left of_right right.query r) tt
 
   reads-more : (outer : List Scope) (left : FromMeant) (parts : List FromPart) → FromReads left → Every FromPartReads parts
       → FromReads (from_more outer left parts)

@@ -9,6 +9,7 @@ use Rattle.bag_algebra.specs.declared.expr.Expr.{Expr}
 use Rattle.bag_algebra.specs.declared.query.SubKind.{SubKind}
 use Rattle.sql_tree.specs.declared.expression.AggWord.{AggWord}
 use Rattle.sql_tree.specs.declared.name.Name.{Name}
+use Rattle.contribution.proofs.WhereGood.{Every, every-append}
 use Rattle.name_meaning.specs.Expressions.{known, null_meant, StepPart, ArmPart, step_operand, arm_operands, else_operand, case_made, case_meant}
 use Rattle.name_meaning.specs.Items.{Made, SelectMeant, SelectPart, columns_meant, no_columns, star_meant, table_star_meant, first_wanted, value_meant, width_of_item, made_items, items_inside}
 use Rattle.name_meaning.specs.Meanings.{Surroundings, Before, Built, Meant, Part, Around, QueryMeant, QueryPart, settled}
@@ -21,7 +22,7 @@ use Rattle.name_meaning.specs.declared.need.Need.{Need}
 use Rattle.name_meaning.specs.declared.scope.Found.{Found}
 use Rattle.name_meaning.specs.declared.scope.Found.TheVariants.{Absent as absent, Ambiguous as ambiguous, Column as found}
 use Rattle.name_meaning.specs.declared.scope.Scope.{Scope}
-use Rattle.name_meaning.proofs.Every.{Every, every-append, every-map, every-flat_map}
+use Rattle.name_meaning.proofs.Every.{every-map, every-flat_map}
 use Rattle.name_meaning.proofs.ReadNodes.{Grows, wide-right, subs-left, subs-right, reads-append}
 use Rattle.name_meaning.specs.declared.rule.Rule.TheVariants as rule
 use Rattle.name_meaning.specs.declared.rule.Rule.{Rule}

@@ -3,17 +3,37 @@ use Rattle.std.specs.Prelude.{◌≡◌, ℕ, suc, pred, List, [], ◌∷◌, �
 use Rattle.std.proofs.Common.{refl, ap, ◌∙◌, arith, sym}
 use Rattle.perm_values.specs.declared.kind.Kind.{Kind}
 use Rattle.perm_values.specs.declared.kind.Kind.TheVariants as kind
+use Rattle.perm_catalog.specs.Columns.{column_kinds}
+use Rattle.perm_catalog.specs.declared.column.Column.{Column}
 use Rattle.name_meaning.specs.Cores.{settle}
-use Rattle.name_meaning.specs.Froms.{named_columns}
+use Rattle.name_meaning.specs.Froms.{named_columns, names_of, settled_columns, table_columns}
 use Rattle.name_meaning.specs.Items.{Titled, named_from}
 use Rattle.name_meaning.specs.Meanings.{OutColumn, settled, united_kind, unites}
 use Rattle.name_meaning.specs.Queries.{out_column, united_columns}
 use Rattle.name_meaning.specs.Scopes.{KnownColumn}
+use Rattle.name_meaning.specs.laws.Known.{column_kinds_of}
 use Rattle.name_meaning.proofs.Needs.{same_kind}
 
 pub settled-twice : (k : Option Kind) (wanted : Kind) → settled k (settled k wanted) ≡ settled k wanted
 settled-twice None wanted = refl
 settled-twice (Some k) wanted = refl
+
+pub settled-kinds : (columns : List OutColumn) → settle columns [] ≡ column_kinds_of (settled_columns columns)
+settled-kinds [] = refl
+settled-kinds (column ∷ columns) = ap (λ (kinds : List Kind). settled column.kind kind.Text ∷ kinds) (settled-kinds columns)
+
+pub settled-names : (columns : List OutColumn) → length (names_of (settled_columns columns)) ≡ length columns
+settled-names [] = refl
+settled-names (column ∷ columns) = ap suc (settled-names columns)
+
+pub named-names : (names : List (List ℕ)) (kinds : List Kind) → length names ≡ length kinds → names_of (named_columns names kinds) ≡ names
+named-names [] kinds same = refl
+named-names (name ∷ names) [] same = absurd (omega (arith, same))
+named-names (name ∷ names) (kind ∷ kinds) same = ap (λ (more : List (List ℕ)). name ∷ more) (named-names names kinds (ap pred same))
+
+pub table-kinds : (columns : List Column) → column_kinds_of (table_columns columns) ≡ column_kinds columns
+table-kinds [] = refl
+table-kinds (column ∷ columns) = ap (λ (kinds : List Kind). column.kind ∷ kinds) (table-kinds columns)
 
 pub settled-united : (k other : Option Kind) (wanted : Kind) → settled k (settled (united_kind k other) wanted) ≡ settled (united_kind k other) wanted
 settled-united None other wanted = refl

@@ -1,12 +1,13 @@
 -- Kinds that stand in a row, part by part.
-use Rattle.std.specs.Prelude.{◌≡◌, ℕ, zero, suc, ◌+◌, List, [], ◌∷◌, ◌++◌, length, slice_get, Some}
+use Rattle.std.specs.Prelude.{◌≡◌, ℕ, suc, ◌+◌, List, [], ◌∷◌, ◌++◌, length, slice_get, Some}
 use Rattle.std.proofs.Common.{refl, ap, ◌∙◌, subst, arith}
 use Rattle.std.proofs.lemmas.List.{length-map, map-append}
 use Rattle.perm_values.specs.declared.kind.Kind.{Kind}
+use Rattle.bag_algebra.specs.Kinds.{aggregate_kinds}
 use Rattle.bag_algebra.specs.declared.query.Aggr.{Aggr}
 use Rattle.name_meaning.specs.Scopes.{group_count}
 use Rattle.name_meaning.specs.declared.scope.Scope.{Scope}
-use Rattle.name_meaning.specs.laws.Standing.{StandAt, own_row, aggregate_kinds, AggregatesStand}
+use Rattle.name_meaning.specs.laws.Standing.{StandAt, own_row, AggregatesStand}
 
 pub stand-append : (place : ℕ) (xs ys row : List Kind) → StandAt place (xs ++ ys) row → StandAt place xs row × StandAt (place + length xs) ys row
 stand-append place [] ys row h = (tt, subst (λ p. StandAt p ys row) (let e : place ≡ place + 0 = omega arith in e) h)
@@ -33,11 +34,6 @@ stand-behind before xs = stand-by_index (length before) xs (before ++ xs) (λ k 
 
 pub stand-whole : (xs : List Kind) → StandAt 0 xs xs
 stand-whole xs = stand-behind [] xs
-
-pub slice_get-front : {X : Type 0} (xs more : List X) (place : ℕ) (x : X) → slice_get xs place ≡ Some x → slice_get (xs ++ more) place ≡ Some x
-slice_get-front [] more place x e = cc
-slice_get-front (y ∷ xs) more zero x e = e
-slice_get-front (y ∷ xs) more (suc place) x e = slice_get-front xs more place x e
 
 -- ---- aggregates
 

@@ -8,6 +8,7 @@ use Rattle.bag_algebra.specs.declared.query.SubKind.{SubKind}
 use Rattle.bag_algebra.specs.declared.query.SubKind.TheVariants.{Exists, Scalar}
 use Rattle.bag_algebra.specs.declared.query.Sublink.{Sublink}
 use Rattle.sql_tree.specs.declared.expression.AggWord.{AggWord}
+use Rattle.contribution.proofs.WhereGood.{Every, every-append}
 use Rattle.name_meaning.specs.Meanings.{Surroundings, Before, Built, Meant, Part, QueryMeant, QueryPart, settled}
 use Rattle.name_meaning.specs.Operands.{Operand, operand, node, need_of, gives_of, operated, made_parts, behind, wanted_of, alike_wanted, united}
 use Rattle.name_meaning.specs.Expressions.{known, null_meant, StepPart, ArmPart, step_operand, arm_operands, else_operand, case_made, case_meant}
@@ -18,7 +19,7 @@ use Rattle.name_meaning.specs.declared.need.Need.{Need}
 use Rattle.name_meaning.specs.declared.scope.Found.{Found}
 use Rattle.name_meaning.specs.declared.scope.Found.TheVariants.{Absent as absent, Ambiguous as ambiguous, Column as found}
 use Rattle.name_meaning.specs.laws.Facts.{Facts, facts_of, no_facts, both_facts, sub_facts}
-use Rattle.name_meaning.proofs.Every.{Every, every-append, every-map, every-flat_map}
+use Rattle.name_meaning.proofs.Every.{every-map, every-flat_map}
 use Rattle.name_meaning.proofs.FactsOf.{sub_facts-append}
 use Rattle.name_meaning.proofs.NamedPlaces.{IsNamed, AreNamed}
 use Rattle.name_meaning.proofs.Kept.{GoodQuery}

@@ -2,11 +2,13 @@
 use Rattle.std.specs.Prelude.{◌≡◌, ℕ, Bool, true, false, cond, not, List, [], ◌∷◌, ◌++◌, length, nat_eq, slice_get, Option, Some, None, IfSome}
 use Rattle.std.proofs.Common.{refl, ap, sym, ◌∙◌, subst, true≢false, arith, eqb-true}
 use Rattle.null_logic.specs.declared.compare.Compare.{Compare}
+use Rattle.perm_values.specs.Rows.{PlacesWithin}
 use Rattle.perm_values.specs.declared.kind.Kind.{Kind}
 use Rattle.perm_values.specs.declared.kind.Kind.TheVariants.{Text, Boolean}
+use Rattle.perm_values.proofs.Lists.{front-none, back-none}
 use Rattle.bag_algebra.specs.built.Forms.{subs_kinds}
 use Rattle.bag_algebra.specs.Kinds.{kinds_of, kind_in, width_of}
-use Rattle.bag_algebra.specs.WellFormed.{HasKind, WellFormed, PlacesIn, AggregatesForm, sub_form, sub_kind}
+use Rattle.bag_algebra.specs.WellFormed.{HasKind, WellFormed, AggregatesForm, sub_form, sub_kind}
 use Rattle.bag_algebra.specs.declared.expr.Expr.{Expr}
 use Rattle.bag_algebra.specs.declared.query.Aggr.{Aggr}
 use Rattle.bag_algebra.specs.declared.query.SubKind.{SubKind}
@@ -22,14 +24,14 @@ use Rattle.name_meaning.specs.laws.Standing.{StandAt, RowsHold, AggregatesStand}
 use Rattle.name_meaning.proofs.FormedParts.{none-formed}
 use Rattle.name_meaning.proofs.GoodMeant.{GoodMeant, GoodPart, IsPlain}
 use Rattle.name_meaning.specs.declared.rule.Rule.TheVariants as rule
-use Rattle.name_meaning.proofs.Every.{front-none, back-none, whole-kind, unbroken}
+use Rattle.name_meaning.proofs.Every.{whole-kind, unbroken}
 use Rattle.name_meaning.proofs.Settled.{settled-twice, settled-united, settled-second}
 
 -- a query that breaks nothing has its kinds and is made well formed, and its provenance columns are columns of it
 pub record GoodQuery (around : Around) (m : QueryMeant) : Type 0 where
   pub known : m.breaks ≡ [] → HasItsKinds m
   pub formed : m.breaks ≡ [] → (rows : List (List Kind)) → RowsHold around.outer rows → (wanted : List Kind) → WellFormed rows (m.make wanted)
-  pub places : m.breaks ≡ [] → IfSome m.places (PlacesIn (width_of (m.make [])))
+  pub places : m.breaks ≡ [] → IfSome m.places (PlacesWithin (width_of (m.make [])))
 
 -- ---- one column
 

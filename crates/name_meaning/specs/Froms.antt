@@ -5,9 +5,6 @@ use Rattle.std.specs.List.{list_any, count_by, range_with_len}
 use Rattle.std.specs.Option.{option_map_or}
 use Rattle.perm_values.specs.declared.kind.Kind.{Kind}
 use Rattle.perm_values.specs.declared.kind.Kind.TheVariants as kind
-use Rattle.perm_values.specs.declared.value.Value.TheVariants as v
-use Rattle.bag_algebra.specs.declared.expr.Expr.{Expr}
-use Rattle.bag_algebra.specs.declared.expr.Expr.TheVariants.{Lit}
 use Rattle.bag_algebra.specs.declared.query.JoinKind.{JoinKind}
 use Rattle.bag_algebra.specs.declared.query.JoinKind.TheVariants as join
 use Rattle.bag_algebra.specs.declared.query.Label.TheVariants.{Relation, External}
@@ -28,6 +25,7 @@ use Rattle.sql_tree.specs.declared.source.JoinWord.{JoinWord}
 use Rattle.sql_tree.specs.declared.source.JoinWord.TheVariants as word
 use Rattle.sql_tree.specs.declared.source.ScopeMark.{ScopeMark}
 use Rattle.sql_tree.specs.declared.source.ScopeMark.TheVariants as mark
+use Rattle.contribution.specs.Conjunctions.{always}
 use Rattle.name_meaning.specs.Meanings.{Inside, nothing_inside, both_inside, Around, Surroundings, Built, Meant, seen_kind, Part, OutColumn, QueryMeant, QueryPart, broken, broken_if, settled, unites}
 use Rattle.name_meaning.specs.Scopes.{KnownColumn, ScopeItem, scope_of}
 use Rattle.name_meaning.specs.Sublinks.{nothing_before, built_alone}
@@ -232,9 +230,6 @@ optional_breaks (Some part) (Some m) = condition_breaks part.at m
 abbrev pub optional_inside : Option Meant → Inside
 optional_inside m = option_map_or (λ (meant : Meant). meant.inside) m nothing_inside
 
-abbrev pub yes : Expr
-yes = Lit (v.Boolean true) kind.Boolean
-
 -- ON stands as a clause over the items up to its own step
 abbrev pub in_on : List ScopeItem → List Scope → Surroundings
 in_on items outer = in_clause (scope_of items) outer false
@@ -290,7 +285,7 @@ on_meant outer (Some items) condition = optional_meant (in_on items outer) condi
 
 -- its sublinks are those of the join alone
 abbrev pub on_built : Option Meant → Built
-on_built m = option_map_or (λ (meant : Meant). meant.make kind.Boolean nothing_before) m (built_alone yes)
+on_built m = option_map_or (λ (meant : Meant). meant.make kind.Boolean nothing_before) m (built_alone always)
 
 abbrev pub joined : FromMeant → JoinWord → Option Part → ItemMeant → Option Meant → FromMeant
 joined left word condition m on = record {
@@ -356,7 +351,7 @@ beside_from left right = record {
   breaks = left.breaks ++ right.breaks;
   names = right.names;
   items = both_known left.items right.items;
-  query = Join join.Inner left.query right.query yes [];
+  query = Join join.Inner left.query right.query always [];
   inside = both_inside left.inside right.inside;
 }
 

@@ -11,6 +11,7 @@ use Rattle.name_meaning.specs.declared.answer.Break.{Break}
 use Rattle.name_meaning.specs.declared.scope.Scope.{Scope}
 use Rattle.name_meaning.specs.laws.Facts.{facts_of, both_facts, sub_facts}
 use Rattle.name_meaning.proofs.FactsOf.{both_facts-none, facts-Apply, facts-Join}
+use Rattle.name_meaning.proofs.Joins.{joins-so-far}
 use Rattle.name_meaning.proofs.Lateral.{plainly}
 use Rattle.name_seen_parts.specs.Seen.{first_or}
 use Rattle.name_seen_parts.specs.declared.refusal.Refusal.{Refusal}
@@ -89,17 +90,6 @@ lateral-whole left word m earlier before old new scope wider first added =
     }
 
 -- ---- all joins so far, and one more
-
-pub joins-behind : (outer : List Scope) (left : FromMeant) (steps : List JoinPart) (step : JoinPart)
-    → join_all outer left (steps ++ step ∷ [])
-    ≡ join_item outer (join_all outer left steps) step (joined_item outer (join_all outer left steps) step)
-joins-behind outer left [] step = refl
-joins-behind outer left (s ∷ steps) step = joins-behind outer (join_item outer left s (joined_item outer left s)) steps step
-
-pub joins-so-far : (outer : List Scope) (left : FromMeant) (steps more : List JoinPart)
-    → join_all outer left (steps ++ more) ≡ join_all outer (join_all outer left steps) more
-joins-so-far outer left [] more = refl
-joins-so-far outer left (s ∷ steps) more = joins-so-far outer (join_item outer left s (joined_item outer left s)) steps more
 
 join-stays : (outer : List Scope) (left : FromMeant) (step : JoinPart) (m : ItemMeant) (b : Break) → first_or left.breaks (tt {0}) ≡ Err b
     → first_or (join_item outer left step m).breaks (tt {0}) ≡ Err b
@@ -204,7 +194,3 @@ never-ok P (Err e) Q is = tt
 pub never-if_ok : {X E : Type 0} (P : X → Type 0) (result : Result X E) (Q : E → Type 0) → IsErrAnd result Q → IfOk result P
 never-if_ok P (Ok x) Q is = absurd is
 never-if_ok P (Err e) Q is = tt
-
-pub whatever-ok : {X E P : Type 0} (result : Result X E) → P → OnOk result P
-whatever-ok (Ok x) holds = holds
-whatever-ok (Err e) holds = tt

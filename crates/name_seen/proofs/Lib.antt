@@ -1,9 +1,9 @@
 mod Conditions
 mod CoreSteps
-mod FromTrees
+pub mod FromTrees
 mod Joined
 mod ListItems
 mod Nodes
 mod QuerySteps
-mod Rows
+pub mod Rows
 mod WhereSeen

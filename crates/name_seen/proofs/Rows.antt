@@ -1,13 +1,9 @@
 -- Lists that loops go through: those so far, the one at hand, and those behind it.
 use Rattle.std.specs.Prelude.{◌≡◌, ℕ, ◌+◌, ◌<◌, List, [], ◌∷◌, ◌++◌, length, map, IsErrAnd, Result, Ok, Err}
 use Rattle.std.proofs.Common.{ap, sym, subst, ◌∙◌, take, drop, get_or}
-use Rattle.std.proofs.lemmas.List.{map-append, map_more, take-append-drop}
+use Rattle.std.proofs.lemmas.List.{map-append, take-append-drop}
+use Rattle.perm_values.proofs.Lists.{map-taken, dropped}
 use Rattle.name_seen_parts.specs.declared.refusal.Refusal.{Refusal}
-use Rattle.name_seen_parts.proofs.Firsts.{dropped}
-
-pub mapped-more : {X Y : Type 0} (p : X → Y) (xs : List X) (i : ℕ) (x : X) → i < length xs → x ≡ get_or xs i x
-    → map p (take (i + 1) xs) ≡ map p (take i xs) ++ p x ∷ []
-mapped-more p xs i x within e = map_more p xs i x within ∙ ap (λ y. map p (take i xs) ++ p y ∷ []) (sym e)
 
 pub mapped-at : {X Y : Type 0} (p : X → Y) (xs : List X) (i : ℕ) (x : X) → i < length xs → x ≡ get_or xs i x
     → map p xs ≡ map p (take i xs) ++ p x ∷ map p (drop (i + 1) xs)
@@ -17,7 +13,7 @@ mapped-at p xs i x within e =
 
 pub twice-more : {X Y Z : Type 0} (g : Y → Z) (p : X → Y) (xs : List X) (i : ℕ) (x : X) → i < length xs → x ≡ get_or xs i x
     → map g (map p (take (i + 1) xs)) ≡ map g (map p (take i xs)) ++ g (p x) ∷ []
-twice-more g p xs i x within e = ap (map g) (mapped-more p xs i x within e) ∙ map-append g (map p (take i xs)) (p x ∷ [])
+twice-more g p xs i x within e = ap (map g) (map-taken p xs i x within e) ∙ map-append g (map p (take i xs)) (p x ∷ [])
 
 pub twice-at : {X Y Z : Type 0} (g : Y → Z) (p : X → Y) (xs : List X) (i : ℕ) (x : X) → i < length xs → x ≡ get_or xs i x
     → map g (map p xs) ≡ map g (map p (take i xs)) ++ g (p x) ∷ map g (map p (drop (i + 1) xs))

@@ -72,7 +72,8 @@ fn join_seen(
 ) -> Result<(), Refusal>
     requires { IsSound around.now.catalog.now }
     ensures seen { (left : FromMeant) (earlier : Items (Items ℕ)) (before : Gathered)
-        → names.old.known.keys ≡ earlier ++ scope.old.items → FromWhole left earlier before facts.old scope.old →
+        → names.old.known.keys ≡ earlier ++ scope.old.items
+        → FromWhole left earlier before facts.old scope.old →
         JoinSeen (join_item (scopes_of around.now.outer.now) left
         (join_of around.now.catalog.now step.now)
         (joined_item (scopes_of around.now.outer.now) left (join_of around.now.catalog.now step.now)))

@@ -1,58 +1,30 @@
 -- The names that expressions give to columns.
-use Rattle.std.specs.Prelude.{◌≡◌, ℕ, IfOk, List, Option, Some, None, Result}
-use Rattle.std.proofs.Common.{refl, ap, sym, subst, ◌∙◌}
+use Rattle.std.specs.Prelude.{◌≡◌, ℕ, List, Option, Some, None}
+use Rattle.std.proofs.Common.{refl, ap, sym, ◌∙◌}
 use Rattle.perm_catalog.specs.Contents.{Contents}
-use Rattle.perm_values.specs.declared.no_memory.NoMemory.{NoMemory}
+use Rattle.sql_tree.specs.Regular.{BodyLayer}
 use Rattle.sql_tree.specs.declared.expression.AggWord.{AggWord}
-use Rattle.sql_tree.specs.declared.expression.ArmTree.{ArmTree}
 use Rattle.sql_tree.specs.declared.expression.ExprBody.{ExprBody, out-ExprBody, roll-ExprBody}
-use Rattle.sql_tree.specs.declared.expression.ExprBody.TheFolds.{map-ExprBody, fold-roll-ExprBody}
 use Rattle.sql_tree.specs.declared.expression.ExprBody.TheOpen.{ExprBody-F}
 use Rattle.sql_tree.specs.declared.expression.ExprBody.TheVariants as e
 use Rattle.sql_tree.specs.declared.expression.ExprBody.TheViews.{roll-out-ExprBody}
-use Rattle.sql_tree.specs.declared.expression.ExprStep.{ExprStep}
 use Rattle.sql_tree.specs.declared.expression.ExprTree.{ExprTree}
 use Rattle.sql_tree.specs.declared.name.ColRef.{ColRef}
-use Rattle.sql_tree.specs.declared.query.Core.{Core}
-use Rattle.sql_tree.specs.declared.query.QueryTree.{QueryTree}
-use Rattle.sql_tree.specs.declared.query.SelectItem.{SelectItem}
-use Rattle.sql_tree.specs.declared.query.SetStep.{SetStep}
-use Rattle.sql_tree.specs.declared.query.SetTree.{SetTree}
-use Rattle.sql_tree.specs.declared.source.FromItem.{FromItem}
-use Rattle.sql_tree.specs.declared.source.FromSource.{FromSource}
-use Rattle.sql_tree.specs.declared.source.FromTree.{FromTree}
-use Rattle.sql_tree.specs.declared.source.JoinStep.{JoinStep}
-use Rattle.name_meaning.specs.Cores.{BodyPart, core_step}
-use Rattle.name_meaning.specs.Expressions.{Body, StepPart, ArmPart, body_step, arm_step, step_step, expr_step}
-use Rattle.name_meaning.specs.Froms.{SourcePart, FromItemPart, FromPart, JoinPart, source_step, from_item_step, from_step, join_step}
-use Rattle.name_meaning.specs.Items.{SelectPart, item_step}
-use Rattle.name_meaning.specs.Meanings.{Part, QueryPart}
-use Rattle.name_meaning.specs.Queries.{SetStepPart, set_step, set_step_step, query_step}
+use Rattle.name_meaning.specs.Expressions.{Body, body_step}
+use Rattle.name_meaning.specs.Meanings.{Part}
 use Rattle.name_meaning.specs.Sublinks.{aggregate_name}
-use Rattle.name_meaning.specs.Trees.{body_of, item_of, set_of_tree, source_of, arm_of, step_of, part_of, core_of, query_of, set_step_of, from_item_of, from_of, join_of}
-use Rattle.name_meaning.proofs.Equations.{ExprBodyFrame, token, exprbody-aggregate-none, exprbody-aggregate-some, exprbody-column, exprbody-paren, exprtree-record}
+use Rattle.name_meaning.specs.Trees.{body_of, part_of}
+use Rattle.name_meaning.proofs.Equations.{token, exprbody-aggregate-none, exprbody-aggregate-some, exprbody-column, exprbody-paren, exprtree-record}
+use Rattle.name_meaning.proofs.Opened.{shown_body, opened_body}
 use Rattle.name_seen_cores.specs.Shown.{called_at, name_or}
-
-abbrev Layer : Type 0
-Layer = ExprBody-F ExprBody SelectItem SetTree FromSource ArmTree ExprStep ExprTree Core QueryTree SetStep FromItem FromTree JoinStep
-
-abbrev seen_layer : Contents → Layer → ExprBodyFrame
-seen_layer c layer = map-ExprBody ExprBody SelectItem SetTree FromSource ArmTree ExprStep ExprTree Core QueryTree SetStep FromItem FromTree JoinStep
-    Body SelectPart BodyPart SourcePart ArmPart StepPart Part BodyPart QueryPart SetStepPart FromItemPart FromPart JoinPart
-    (body_of c) (item_of c) (set_of_tree c) (source_of c) (arm_of c) (step_of c) (part_of c) (core_of c) (query_of c) (set_step_of c) (from_item_of c) (from_of c) (join_of c) layer
-
-body-is : (c : Contents) (body : ExprBody) → body_of c body ≡ body_step (seen_layer c (out-ExprBody body))
-unfolding body_of item_of set_of_tree source_of arm_of step_of part_of core_of query_of set_step_of from_item_of from_of join_of
-body-is c body = ap (body_of c) (sym (roll-out-ExprBody body)) ∙ fold-roll-ExprBody Body SelectPart BodyPart SourcePart ArmPart StepPart Part BodyPart QueryPart SetStepPart FromItemPart FromPart JoinPart
-    body_step item_step set_step source_step arm_step step_step expr_step core_step query_step set_step_step (from_item_step c) from_step join_step (out-ExprBody body)
 
 no-name : (c : Contents) (body : ExprBody) → ((r : ColRef) → body ≡ e.Column r → ⊥) → ((p : ExprTree) → body ≡ e.Paren p → ⊥)
     → ((w : AggWord) (o : Option ExprTree) → body ≡ e.Aggregate w o → ⊥) → (body_of c body).called ≡ None
-no-name c body no_column no_paren no_aggregate = ap (λ (b : Body). b.called) (body-is c body) ∙ by-layer (out-ExprBody body) refl where
-  rolled : (layer : Layer) → out-ExprBody body ≡ layer → body ≡ roll-ExprBody layer
+no-name c body no_column no_paren no_aggregate = ap (λ (b : Body). b.called) (opened_body c body) ∙ by-layer (out-ExprBody body) refl where
+  rolled : (layer : BodyLayer) → out-ExprBody body ≡ layer → body ≡ roll-ExprBody layer
   rolled layer is = sym (roll-out-ExprBody body) ∙ ap roll-ExprBody is
 
-  by-layer : (layer : Layer) → out-ExprBody body ≡ layer → (body_step (seen_layer c layer)).called ≡ None
+  by-layer : (layer : BodyLayer) → out-ExprBody body ≡ layer → (body_step (shown_body c layer)).called ≡ None
   by-layer ExprBody-F.Null is = refl
   by-layer (ExprBody-F.NullOf k) is = refl
   by-layer (ExprBody-F.Integer n) is = refl
@@ -111,6 +83,3 @@ called-aggregate c position tree word argument is =
       by-argument : (argument : Option ExprTree) → (body_of c (e.Aggregate word argument)).called ≡ Some (aggregate_name word)
       by-argument None = ap (λ (b : Body). b.called) (exprbody-aggregate-none c word)
       by-argument (Some part) = ap (λ (b : Body). b.called) (exprbody-aggregate-some c word part)
-
-pub named-so : (result : Result (List ℕ) NoMemory) (a b : List ℕ) → b ≡ a → IfOk result (λ name. name ≡ a) → IfOk result (λ name. name ≡ b)
-named-so result a b e named = subst (λ (text : List ℕ). IfOk result (λ name. name ≡ text)) (sym e) named

@@ -5,6 +5,7 @@ use Rattle.null_logic.specs.declared.operator.Operator.TheVariants as x
 use Rattle.perm_catalog.specs.Contents.{Contents}
 use Rattle.perm_values.specs.declared.kind.Kind.{Kind}
 use Rattle.perm_values.specs.declared.kind.Kind.TheVariants as kind
+use Rattle.perm_values.proofs.Lists.{taken}
 use Rattle.sql_tree.specs.declared.expression.ArmTree.{ArmTree}
 use Rattle.sql_tree.specs.declared.expression.ExprStep.{ExprStep}
 use Rattle.name_meaning.specs.Expressions.{StepPart, step_operand, arm_operands, else_operand, first_need, chain_gives}
@@ -22,7 +23,6 @@ use Rattle.name_seen_cores.specs.from.Added.{facts_in}
 use Rattle.name_seen_cores.specs.Expressed.{OperandsBehind}
 use Rattle.name_seen_cores.specs.declared.from.facts.Facts.{Facts as Gathered}
 use Rattle.name_seen_cores.proofs.Behind.{behind-both}
-use Rattle.contribution.proofs.Added.{one_more}
 
 -- ---- loops
 
@@ -35,7 +35,7 @@ pub mapped-more : {X Y : Type 0} (g : Y → Operand) (p : X → Y) (xs : List X)
     → OperandsBehind (map g (map p (take (i + 1) xs))) q old new s
 mapped-more g p xs i x q r s old middle new within e so_far one =
     subst (λ os. OperandsBehind os q old new s)
-    (sym (ap (λ (ys : List _). map g (map p ys)) (one_more xs i x within e) ∙ mapped-behind g p (take i xs) x)) (behind-both (map g (map p (take i xs))) (g (p x) ∷ []) q r s old middle new so_far one)
+    (sym (ap (λ (ys : List _). map g (map p ys)) (taken xs i x within e) ∙ mapped-behind g p (take i xs) x)) (behind-both (map g (map p (take i xs))) (g (p x) ∷ []) q r s old middle new so_far one)
 
 pub flat-behind : {X Y Z : Type 0} (g : Y → List Z) (p : X → Y) (xs : List X) (x : X)
     → flat_map g (map p (xs ++ x ∷ [])) ≡ flat_map g (map p xs) ++ g (p x)
@@ -48,7 +48,7 @@ pub flat-more : {X Y : Type 0} (g : Y → List Operand) (p : X → Y) (xs : List
     → OperandsBehind (flat_map g (map p (take (i + 1) xs))) q old new s
 flat-more g p xs i x q r s old middle new within e so_far one =
     subst (λ os. OperandsBehind os q old new s)
-    (sym (ap (λ (ys : List _). flat_map g (map p ys)) (one_more xs i x within e) ∙ flat-behind g p (take i xs) x)) (behind-both (flat_map g (map p (take i xs))) (g (p x)) q r s old middle new so_far one)
+    (sym (ap (λ (ys : List _). flat_map g (map p ys)) (taken xs i x within e) ∙ flat-behind g p (take i xs) x)) (behind-both (flat_map g (map p (take i xs))) (g (p x)) q r s old middle new so_far one)
 
 -- ---- steps and arms
 

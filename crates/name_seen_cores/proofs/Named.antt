@@ -5,22 +5,19 @@ use Rattle.std.proofs.Math.ListN.{drop_of_length-le}
 use Rattle.std.proofs.lemmas.Bool.{cases_lt}
 use Rattle.std.proofs.lemmas.List.{map-append}
 use Rattle.perm_values.specs.declared.kind.Kind.{Kind}
+use Rattle.perm_values.proofs.Lists.{dropped}
 use Rattle.name_meaning.specs.Froms.{named_columns}
 use Rattle.name_meaning.specs.Meanings.{OutColumn}
 use Rattle.name_meaning.specs.Queries.{out_column}
-use Rattle.name_meaning.specs.Scopes.{KnownColumn}
 use Rattle.name_seen_parts.specs.Columns.{column_of, columns_of}
 use Rattle.name_seen_parts.specs.declared.clauses.column.ShownColumn.{ShownColumn}
-use Rattle.name_seen_parts.proofs.Firsts.{dropped}
+use Rattle.name_seen_parts.proofs.NamedColumns.{known_column}
 
 abbrev pub named_from_place : ℕ → List (List ℕ) → List Kind → List OutColumn
 named_from_place at names kinds = map out_column (named_columns (drop at names) (drop at kinds))
 
 abbrev pub column_named : List ℕ → Kind → OutColumn
 column_named name kind = record { name = name; kind = Some kind }
-
-abbrev known_column : List ℕ → Kind → KnownColumn
-known_column name kind = record { name = name; kind = kind }
 
 next-named : (names : List (List ℕ)) (kinds : List Kind) (at : ℕ) (name : List ℕ) (kind : Kind) → at < length names → at < length kinds → name ≡ get_or names at name
     → kind ≡ get_or kinds at kind → named_from_place at names kinds ≡ out_column (known_column name kind) ∷ named_from_place (at + 1) names kinds

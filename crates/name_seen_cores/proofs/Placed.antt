@@ -2,6 +2,7 @@
 use Rattle.std.specs.Prelude.{◌≡◌, ℕ, Bool, true, not, List, [], ◌∷◌, ◌++◌, Option, Some, option_map, Ok}
 use Rattle.std.specs.List.{list_any}
 use Rattle.std.proofs.Common.{ap, append_assoc, sym, ◌∙◌}
+use Rattle.perm_values.proofs.Lists.{front-none}
 use Rattle.perm_catalog.specs.declared.column.Column.{Column}
 use Rattle.sql_tree.specs.declared.source.ScopeMark.{ScopeMark}
 use Rattle.name_meaning.specs.Froms.{Read, item_meant, mark_breaks, named_so, names_of, table_columns}
@@ -9,7 +10,7 @@ use Rattle.name_meaning.specs.Meanings.{broken_if}
 use Rattle.name_meaning.specs.Scopes.{KnownColumn}
 use Rattle.name_meaning.specs.declared.answer.Break.{Break}
 use Rattle.name_meaning.specs.declared.scope.Scope.{Scope}
-use Rattle.name_meaning.proofs.Every.{front-none, unbroken-not}
+use Rattle.name_meaning.proofs.Every.{unbroken-not}
 use Rattle.name_meaning.specs.laws.Facts.{both_facts}
 use Rattle.name_seen_parts.specs.Seen.{first_or}
 use Rattle.name_seen_cores.specs.from.Added.{facts_in}

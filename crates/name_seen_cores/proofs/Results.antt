@@ -1,10 +1,5 @@
 -- What holds of results, where there was enough memory.
-use Rattle.std.specs.Prelude.{Result, Ok, Err, IfOk, OnOk}
-
--- what holds anyway
-pub holds-on : {X E P : Type 0} (result : Result X E) → P → OnOk result P
-holds-on (Ok x) holds = holds
-holds-on (Err e) holds = tt
+use Rattle.std.specs.Prelude.{Result, Ok, Err, IfOk}
 
 pub turned-ok : {X E : Type 0} {P Q : X → Type 0} (result : Result X E) → IfOk result P → ((x : X) → P x → Q x) → IfOk result Q
 turned-ok (Ok x) holds f = f x holds

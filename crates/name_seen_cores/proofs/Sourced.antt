@@ -11,7 +11,8 @@ use Rattle.bag_algebra.specs.declared.query.Query.TheVariants.{Base}
 use Rattle.perm_values.specs.declared.kind.Kind.{Kind}
 use Rattle.sql_tree.specs.declared.source.ScopeMark.{ScopeMark}
 use Rattle.sql_tree.specs.declared.source.ScopeMark.TheVariants as mark
-use Rattle.name_meaning.specs.Froms.{FromMeant, FromPart, Read, all_places, beside_from, from_all, from_more, marked, names_of, no_from, read_names, texts_of, yes, both_known}
+use Rattle.contribution.specs.Conjunctions.{always}
+use Rattle.name_meaning.specs.Froms.{FromMeant, FromPart, Read, all_places, beside_from, from_all, from_more, marked, names_of, no_from, read_names, texts_of, both_known}
 use Rattle.name_meaning.specs.Scopes.{KnownColumn, ScopeItem, scope_of}
 use Rattle.name_meaning.specs.declared.answer.Break.{Break}
 use Rattle.name_meaning.specs.declared.scope.Scope.{Scope}
@@ -74,7 +75,7 @@ beside-whole left right old middle new l r scope first second is = record {
       ∙ scope-beside-is first.items second.items;
   names = second.names ∙ ap (λ (scope : Scope). scope.items) (sym is);
   adds = both-add (facts_of left.query) (facts_of right.query) (facts_in old) (facts_in middle) (facts_in new) first.adds second.adds
-      ∙ ap (both_facts (facts_in old)) (sym (facts-Join_alone join.Inner left.query right.query yes));
+      ∙ ap (both_facts (facts_in old)) (sym (facts-Join_alone join.Inner left.query right.query always));
 }
 
 alone-whole : (m : FromMeant) (old middle new : Gathered) (l r scope : Scope)

@@ -21,7 +21,7 @@ use Rattle.name_seen_parts.proofs.SeenAs.{seen-as}
 use Rattle.name_seen_cores.specs.from.Added.{facts_in}
 use Rattle.name_seen_parts.specs.Told.{Tells}
 use Rattle.name_seen_cores.specs.Expressed.{ExpressionSeen}
-use Rattle.name_seen_cores.specs.Inner.{InnerIs, InnerLooked, InnerSeen, exists_over, scalar_over, tested_by, tested_over, first_shown}
+use Rattle.name_seen_cores.specs.Inner.{InnerIs, InnerLooked, InnerSeen, exists_over, scalar_over, tested_by, tested_over, kind_of_first}
 use Rattle.name_seen_parts.specs.Columns.{columns_of}
 use Rattle.name_seen_cores.specs.from.Queried.{QuerySeen, QueryWhole}
 use Rattle.name_seen_cores.specs.declared.from.facts.Facts.{Facts as Gathered}
@@ -95,7 +95,7 @@ query-at c query = ap (λ (part : QueryPart). part.at) (querytree-record c query
 
 -- ---- the query of a sublink
 
-first-is : (columns : List ShownColumn) → elim (columns_of columns) [ [] ↦ None | c ∷ cs ↦ c.kind ] ≡ first_shown columns
+first-is : (columns : List ShownColumn) → elim (columns_of columns) [ [] ↦ None | c ∷ cs ↦ c.kind ] ≡ kind_of_first columns
 first-is [] = refl
 first-is (column ∷ columns) = refl
 
@@ -107,7 +107,7 @@ abbrev kind_known : Option (List OutColumn) → Option Kind
 kind_known columns = elim columns [ None ↦ None | Some columns ↦ elim columns [ [] ↦ None | c ∷ cs ↦ c.kind ] ]
 
 pub inner-is : (q : QueryMeant) (shown : QueryShown) (old new : Gathered) (inner : InnerColumns) → QueryWhole q shown
-    → inner.one ≡ nat_eq (length shown.columns) 1 → inner.kind ≡ first_shown shown.columns
+    → inner.one ≡ nat_eq (length shown.columns) 1 → inner.kind ≡ kind_of_first shown.columns
     → facts_in new ≡ both_facts (facts_in old) (facts_in shown.facts) → InnerIs q old new inner
 inner-is q shown old new inner whole one first added = record {
   whole = whole.whole;

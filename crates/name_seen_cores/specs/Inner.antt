@@ -15,9 +15,9 @@ use Rattle.name_seen_parts.specs.declared.clauses.column.ShownColumn.{ShownColum
 use Rattle.name_seen_cores.specs.declared.sublinks.InnerColumns.{InnerColumns}
 use Rattle.name_meaning.specs.declared.rule.Rule.TheVariants as rule
 
-abbrev pub first_shown : List ShownColumn → Option Kind
-first_shown [] = None
-first_shown (column ∷ columns) = column.kind
+abbrev pub kind_of_first : List ShownColumn → Option Kind
+kind_of_first [] = None
+kind_of_first (column ∷ columns) = column.kind
 
 -- behind the facts so far stand those of a sublink with this query
 pub record InnerIs (q : QueryMeant) (old new : Gathered) (inner : InnerColumns) : Type 0 where

@@ -12,4 +12,4 @@ pub use facts::Facts;
 pub use items::put_item;
 pub use reading::{Reading, read_named, read_shown};
 pub use shown::QueryShown;
-pub use viewed::{facts_of, kinds_at};
+pub use viewed::facts_of;

@@ -22,4 +22,6 @@ pub use listing::{add_star, add_table_star, add_value};
 pub use queries::{asks_provenance, core_word, query_over};
 pub use sets::{add_operand, add_shown};
 pub use standing::in_clause;
-pub use sublinks::{InnerColumns, add_inner, exists_over, in_tested, scalar_over, tested_over};
+pub use sublinks::{
+    InnerColumns, add_inner, exists_over, in_tested, kind_of_first, scalar_over, tested_over,
+};

@@ -4,7 +4,7 @@ ghost use Rattle.name_meaning.specs.Meanings.{QueryMeant};
 ghost use Rattle.name_meaning.specs.Sublinks.{in_tested};
 ghost use Rattle.name_meaning.specs.declared.scope.Scope.{Scope};
 ghost use Rattle.name_seen_parts.specs.Standing.{standing_in};
-ghost use Rattle.name_seen_cores.specs.Inner.{InnerSeen, exists_over, first_shown, scalar_over, tested_over, tested_by};
+ghost use Rattle.name_seen_cores.specs.Inner.{InnerSeen, exists_over, scalar_over, tested_over, tested_by, kind_of_first};
 ghost use Rattle.name_seen_cores.specs.from.Queried.{QueryWhole};
 
 use crate::from::{Facts, QueryShown};
@@ -24,7 +24,7 @@ pub fn add_inner(shown: QueryShown, facts: &mut Facts) -> Result<InnerColumns, R
     ensures { (q : QueryMeant) → QueryWhole q shown → InnerSeen q facts.old facts.new result }
 {
     let one = is_one(shown.columns.as_slice());
-    let kind = first_shown(shown.columns.as_slice());
+    let kind = kind_of_first(shown.columns.as_slice());
     let QueryShown { facts: own, .. } = shown;
     match facts.add(own) {
         Ok(()) => Ok(InnerColumns { one, kind }),
@@ -38,8 +38,9 @@ fn is_one(columns: &[ShownColumn]) -> bool
     columns.len() == 1
 }
 
-fn first_shown(columns: &[ShownColumn]) -> Option<Kind>
-    ensures { result ≡ first_shown columns.now }
+/// The kind of the first column; none where there is no column, and where that one is of any kind. It takes no memory.
+pub fn kind_of_first(columns: &[ShownColumn]) -> Option<Kind>
+    ensures { result ≡ kind_of_first columns.now }
 {
     match columns.first() {
         None => None,

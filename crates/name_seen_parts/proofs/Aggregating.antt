@@ -4,7 +4,7 @@ use Rattle.std.specs.List.{list_any}
 use Rattle.std.proofs.Common.{refl, ap, sym, ◌∙◌, take, get_or, append-nil}
 use Rattle.std.proofs.lemmas.List.{take_more}
 use Rattle.std.proofs.lemmas.List.Folds.{list_any-append}
-use Rattle.bag_algebra.proofs.Truths.{or_associates}
+use Rattle.bag_algebra.proofs.Truths.{or_associates, or_false}
 use Rattle.perm_catalog.specs.Contents.{Contents}
 use Rattle.sql_tree.specs.declared.expression.AggWord.{AggWord}
 use Rattle.sql_tree.specs.declared.expression.ArmTree.{ArmTree}
@@ -21,24 +21,20 @@ pub of-body : (c : Contents) (tree : ExprTree) (body : Body) → body_of c tree.
 unfolding token
 of-body c tree body e = ap (λ (part : Part). part.aggregating) (exprtree-record c tree.at tree.body) ∙ ap (λ (b : Body). b.aggregating) e
 
-or-none : (b : Bool) → (b || false) ≡ b
-or-none true = refl
-or-none false = refl
-
 -- ---- parts
 
 pub got : (c : Contents) (result : Bool) (read tree : ExprTree) → result ≡ is_aggregating (part_of c read) → read ≡ tree → result ≡ is_aggregating (part_of c tree)
 got c result read tree e same = e ∙ ap (λ (tree : ExprTree). is_aggregating (part_of c tree)) same
 
 pub one-part : (result a : Bool) → result ≡ a → result ≡ (a || false)
-one-part result a e = e ∙ sym (or-none a)
+one-part result a e = e ∙ sym (or_false a)
 
 pub two-parts : (first second a b : Bool) → first ≡ a → second ≡ b → (first || second) ≡ (a || (b || false))
-two-parts first second a b e f = (λ i. e i || f i) ∙ ap (λ (rest : Bool). a || rest) (sym (or-none b))
+two-parts first second a b e f = (λ i. e i || f i) ∙ ap (λ (rest : Bool). a || rest) (sym (or_false b))
 
 pub three-parts : (first second third a b c : Bool) → first ≡ a → second ≡ b → third ≡ c → ((first || second) || third) ≡ (a || (b || (c || false)))
 three-parts first second third a b c e f g =
-    (λ i. (e i || f i) || g i) ∙ or_associates a b c ∙ ap (λ (rest : Bool). a || (b || rest)) (sym (or-none c))
+    (λ i. (e i || f i) || g i) ∙ or_associates a b c ∙ ap (λ (rest : Bool). a || (b || rest)) (sym (or_false c))
 
 pub part-and : (first second a b : Bool) → first ≡ a → second ≡ b → (first || second) ≡ (a || b)
 part-and first second a b e f = λ i. e i || f i
@@ -65,7 +61,7 @@ pub any-more : {X Y : Type 0} (test : Y → Bool) (p : X → Y) (xs : List X) (i
 any-more test p xs i x within e =
     ap (λ (ys : List _). list_any test (map p ys)) (take_more xs i x within ∙ ap (λ y. take i xs ++ y ∷ []) (sym e)) ∙ behind test p (take i xs) x where
       behind : {X Y : Type 0} (test : Y → Bool) (p : X → Y) (xs : List X) (x : X) → list_any test (map p (xs ++ x ∷ [])) ≡ (list_any test (map p xs) || test (p x))
-      behind test p [] x = or-none (test (p x))
+      behind test p [] x = or_false (test (p x))
       behind test p (y ∷ xs) x = ap (λ (rest : Bool). test (p y) || rest) (behind test p xs x) ∙ sym (or_associates (test (p y)) (list_any test (map p xs)) (test (p x)))
 
 pub any-flat-more : {X Y Z : Type 0} (test : Z → Bool) (f : Y → List Z) (p : X → Y) (xs : List X) (i : ℕ) (x : X) → i < length xs → x ≡ get_or xs i x

@@ -5,13 +5,14 @@ use mathlib.Core.List.{reverse}
 use Rattle.std.proofs.Common.{refl, ap, sym, ◌∙◌, take, drop, get_or}
 use Rattle.std.proofs.lemmas.List.{map_more, reverse-append}
 use Rattle.std.proofs.lemmas.List.Folds.{list_any-append}
+use Rattle.perm_values.proofs.Lists.{dropped}
 use Rattle.sql_tree.specs.declared.name.Name.{Name}
 use Rattle.name_meaning.specs.Froms.{attribute_breaks, column_breaks, named_so, texts_of}
 use Rattle.name_meaning.specs.Meanings.{broken_if}
 use Rattle.name_meaning.specs.declared.answer.Break.{Break}
 use Rattle.name_seen_parts.specs.Seen.{first_or}
 use Rattle.name_seen_parts.specs.Marks.{attribute_break, is_among}
-use Rattle.name_seen_parts.proofs.Firsts.{dropped, first-stays}
+use Rattle.name_seen_parts.proofs.Firsts.{first-stays}
 use Rattle.name_meaning.specs.declared.rule.Rule.TheVariants as rule
 
 -- ---- the order of names is of no account

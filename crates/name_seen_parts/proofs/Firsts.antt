@@ -1,6 +1,7 @@
 -- The first break of breaks in a row.
-use Rattle.std.specs.Prelude.{◌≡◌, ℕ, suc, ◌+◌, ◌<◌, List, [], ◌∷◌, ◌++◌, length, flat_map, Ok, Err}
-use Rattle.std.proofs.Common.{refl, ap, sym, ◌∙◌, drop, get_or, drop-cons, add-one}
+use Rattle.std.specs.Prelude.{◌≡◌, ℕ, ◌+◌, ◌<◌, List, [], ◌∷◌, ◌++◌, length, flat_map, Ok, Err}
+use Rattle.std.proofs.Common.{refl, ap, ◌∙◌, drop, get_or}
+use Rattle.perm_values.proofs.Lists.{dropped}
 use Rattle.name_meaning.specs.declared.answer.Break.{Break}
 use Rattle.name_seen_parts.specs.Seen.{first_or}
 
@@ -42,9 +43,6 @@ pub all-none : (xs ys zs : List Break) → xs ≡ [] → ys ≡ [] → zs ≡ []
 all-none xs ys zs none nothing empty = both-none (xs ++ ys) zs (both-none xs ys none nothing) empty
 
 -- ---- breaks of a list, one after the other
-
-pub dropped : {X : Type 0} (xs : List X) (i : ℕ) (x : X) → i < length xs → x ≡ get_or xs i x → drop i xs ≡ x ∷ drop (i + 1) xs
-dropped xs i x within e = drop-cons xs i x within ∙ ap (λ y. y ∷ drop (suc i) xs) (sym e) ∙ ap (λ n. x ∷ drop n xs) (sym (add-one i))
 
 pub flat-step : {X : Type 0} (f : X → List Break) (xs : List X) (i : ℕ) (x : X) → i < length xs → x ≡ get_or xs i x → f x ≡ []
     → flat_map f (drop i xs) ≡ flat_map f (drop (i + 1) xs)

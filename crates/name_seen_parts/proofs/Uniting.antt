@@ -5,11 +5,11 @@ use Rattle.std.proofs.Math.ListN.{set, drop_of_length-le}
 use Rattle.std.proofs.lemmas.Bool.{cases_lt}
 use Rattle.std.proofs.lemmas.List.{drop-set-lt, take-append-drop, take_more_set, map-append}
 use Rattle.perm_values.specs.declared.kind.Kind.{Kind}
+use Rattle.perm_values.proofs.Lists.{dropped}
 use Rattle.name_meaning.specs.Meanings.{OutColumn, unites, united_kind}
 use Rattle.name_meaning.specs.Queries.{do_unite, united_columns}
 use Rattle.name_seen_parts.specs.Columns.{column_of, columns_of}
 use Rattle.name_seen_parts.specs.declared.clauses.column.ShownColumn.{ShownColumn}
-use Rattle.name_seen_parts.proofs.Firsts.{dropped}
 
 -- ---- whether they unite
 

@@ -1,7 +1,7 @@
 -- The first break of names and values, gone through from the left.
 use Rattle.std.specs.Prelude.{◌≡◌, ℕ, suc, ◌+◌, ◌<◌, Bool, true, false, not, ◌||◌, List, [], ◌∷◌, ◌++◌, length, map, Option, Some, None, Result, Ok, Err, ◌≤◌, flat_map}
 use Rattle.std.proofs.Common.{refl, true≢false, ap, sym, subst, ◌∙◌, drop, take, get_or, ◌-◌, arith, length-drop}
-use Rattle.std.proofs.lemmas.Bool.{or_left, or_right}
+use Rattle.std.proofs.lemmas.Bool.{or_left, or_right, or_from, not-true, not-false}
 use Rattle.std.proofs.lemmas.List.{map_more, reverse-append, take-append-drop, take_all}
 use Rattle.std.proofs.lemmas.List.Folds.{list_any-append}
 use Rattle.std.specs.Cmp.Lexicographic.{bytes_decides}
@@ -12,7 +12,6 @@ use Rattle.perm_values.specs.declared.kind.Kind.TheVariants.{Integer, Text, Bool
 use Rattle.perm_catalog.specs.Columns.{column_kinds}
 use Rattle.perm_catalog.specs.Contents.{Contents}
 use Rattle.perm_catalog.specs.declared.column.Column.{Column}
-use Rattle.contribution.proofs.Added.{one_more}
 use Rattle.sql_tree.specs.declared.expression.ExprTree.{ExprTree}
 use Rattle.sql_tree.specs.declared.statement.ColumnDef.{ColumnDef}
 use Rattle.name_meaning.specs.Froms.{condition_breaks, named_so, names_of, settled_columns}
@@ -28,9 +27,11 @@ use Rattle.name_seen_parts.specs.declared.refusal.Refusal.{Refusal}
 use Rattle.name_seen_parts.specs.declared.refusal.Refusal.TheVariants.{Break as Broken, NoMemory}
 use Rattle.name_seen_parts.specs.Told.{Tells}
 use Rattle.std.proofs.Math.ListN.{drop_of_length-le}
+use Rattle.perm_values.proofs.Lists.{taken, dropped}
+use Rattle.bag_algebra.proofs.Truths.{left-false, right-false}
 use Rattle.name_seen_parts.specs.Columns.{columns_of}
 use Rattle.name_seen_parts.specs.declared.clauses.column.ShownColumn.{ShownColumn}
-use Rattle.name_seen_parts.proofs.Firsts.{dropped, first-stays, flat-first}
+use Rattle.name_seen_parts.proofs.Firsts.{first-stays, flat-first}
 use Rattle.name_meaning.specs.sets.Named.{is_named}
 use Rattle.name_statements.specs.Earlier.{column_break, is_defined, is_shown, texts_of}
 use Rattle.name_meaning.specs.declared.rule.Rule.TheVariants as rule
@@ -91,14 +92,6 @@ column-told earlier column keys is_new are told =
     told ∙ ap (λ (names : List (List ℕ)). not (is_named names column.name.text)) are
     ∙ ap not (sym (any-texts (named_so column.name.text) earlier))
 
-not-true : (b : Bool) → not b ≡ true → b ≡ false
-not-true true e = absurd (true≢false (sym e))
-not-true false e = refl
-
-not-false : (b : Bool) → not b ≡ false → b ≡ true
-not-false true e = refl
-not-false false e = absurd (true≢false e)
-
 pub column-new : (earlier : List ColumnDef) (column : ColumnDef) (keys : List (List ℕ)) (is_new : Bool) → keys ≡ texts_of earlier
     → is_new ≡ not (is_named keys column.name.text) → is_new ≡ true → column_break earlier column ≡ []
 column-new earlier column keys is_new are told new =
@@ -141,18 +134,7 @@ pub shown-behind : (columns : List ShownColumn) (at : ℕ) (column : ShownColumn
     → column ≡ get_or columns at column → keys ≡ shown_names (take at columns) → keys ++ column.name ∷ [] ≡ shown_names (take (at + 1) columns)
 shown-behind columns at column keys within e are =
     ap (λ (names : List (List ℕ)). names ++ column.name ∷ []) are ∙ sym (shown-append (take at columns) (column ∷ []))
-    ∙ ap shown_names (sym (one_more columns at column within e))
-
-both-false : (a b : Bool) → a ≡ false → b ≡ false → (a || b) ≡ false
-both-false a b none neither = (λ i. none i || b) ∙ neither
-
-left-false : (a b : Bool) → (a || b) ≡ false → a ≡ false
-left-false true b e = e
-left-false false b e = refl
-
-right-false : (a b : Bool) → (a || b) ≡ false → b ≡ false
-right-false true b e = absurd (true≢false e)
-right-false false b e = e
+    ∙ ap shown_names (sym (taken columns at column within e))
 
 named-back : (a b : List ℕ) → named_so a b ≡ true → named_so b a ≡ true
 named-back a b e = (bytes_decides b a).1 (sym ((bytes_decides a b).0 e))
@@ -169,9 +151,9 @@ new-repeats [] name new none = refl
 new-repeats (first ∷ names) name new none =
     let apart = other-back name first (left-false (named_so name first) (list_any (named_so name) names) new) in
     let among = left-false (list_any (named_so first) names) (repeats names) none in
-    both-false (list_any (named_so first) (names ++ name ∷ [])) (repeats (names ++ name ∷ []))
+    or_from (list_any (named_so first) (names ++ name ∷ [])) (repeats (names ++ name ∷ []))
     (list_any-append (named_so first) names (name ∷ [])
-    ∙ both-false (list_any (named_so first) names) (named_so first name || false) among (both-false (named_so first name) false apart refl))
+    ∙ or_from (list_any (named_so first) names) (named_so first name || false) among (or_from (named_so first name) false apart refl))
     (new-repeats names name (right-false (named_so name first) (list_any (named_so name) names) new)
     (right-false (list_any (named_so first) names) (repeats names) none))
 

@@ -5,9 +5,10 @@ use Rattle.std.proofs.lemmas.Bool.Decides.{nat_tests}
 use Rattle.std.proofs.lemmas.List.Recursion.{is_count_by}
 use Rattle.std.specs.List.{count_by, position_or_len, prefix_len}
 use Rattle.std.specs.Option.{option_map_or}
+use Rattle.perm_values.proofs.Lists.{front-none, back-none}
 use Rattle.bag_algebra.specs.declared.query.Query.{Query}
-use Rattle.name_meaning.proofs.Every.{back-none, front-none}
 use Rattle.name_meaning.proofs.Equations.{token, querytree-record}
+use Rattle.name_meaning.proofs.Every.{unbroken-not}
 use Rattle.name_meaning.specs.Cores.{BodyPart}
 use Rattle.name_meaning.specs.Meanings.{Around, OutColumn, QueryMeant, QueryPart, broken_if, is_whole, query_means_at}
 use Rattle.name_meaning.specs.Queries.{is_named, asks_provenance, key_break, key_of, key_place, keys_breaks, keys_of, limited, plain_query, query_with_provenance, provenance_columns, query_seen}
@@ -19,7 +20,6 @@ use Rattle.sql_tree.specs.declared.query.OrderKey.TheVariants.{Named as named_ke
 use Rattle.sql_tree.specs.declared.query.OrderTree.{OrderTree}
 use Rattle.sql_tree.specs.declared.query.QueryTree.{QueryTree}
 use Rattle.name_meaning.specs.declared.rule.Rule.TheVariants as rule
-use Rattle.name_meaning.specs.declared.rule.Rule.{Rule}
 
 -- ---- the first place in a longer list
 
@@ -63,15 +63,11 @@ same-place p xs ys e =
 
 -- ---- keys
 
-unbroken : (b : Bool) (which : Rule) (at : ℕ) → broken_if b which at ≡ [] → b ≡ false
-unbroken true which at e = cc
-unbroken false which at e = refl
-
 key-same : (own more : List OutColumn) (key : OrderKey) (at : ℕ) (descending : Bool) → key_break own (record { at = at; key = key; descending = descending }) ≡ []
     → key_place (own ++ more) key ≡ key_place own key
 key-same own more (named_key name) at descending none =
     ap (λ (found : Option ℕ). option_map_or (λ place. place) found 0)
-    (same-place (is_named name) own more (unbroken (nat_eq (count_by (is_named name) own) 0) rule.UnknownColumn at
+    (same-place (is_named name) own more (unbroken-not (nat_eq (count_by (is_named name) own) 0) rule.UnknownColumn at
     (front-none (broken_if (nat_eq (count_by (is_named name) own) 0) rule.UnknownColumn at) (broken_if (nat_lt 1 (count_by (is_named name) own)) rule.AmbiguousColumn at) none)))
 key-same own more (Position n) at descending none = refl
 

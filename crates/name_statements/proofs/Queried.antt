@@ -1,6 +1,7 @@
 -- Statements over a query: refused by one of their parts, or resolved.
 use Rattle.std.specs.Prelude.{◌≡◌, ℕ, List, [], ◌∷◌, ◌++◌, length, IsErrAnd, Result, Ok, Err}
 use Rattle.std.proofs.Common.{refl, ap, sym, subst, ◌∙◌}
+use Rattle.perm_values.proofs.Lists.{front-none, back-none}
 use Rattle.bag_algebra.specs.declared.query.Answer.{Answer}
 use Rattle.name_seen_parts.proofs.Firsts.{both-none, first-stays}
 use Rattle.perm_catalog.specs.Contents.{Contents}
@@ -20,7 +21,6 @@ use Rattle.name_seen_parts.specs.declared.refusal.Refusal.{Refusal}
 use Rattle.name_seen_parts.specs.declared.refusal.Refusal.TheVariants.{Break as Broken}
 use Rattle.name_statements.specs.Resolves.{IsWhole, ResolvesBody, ResolvesBy, WholeSeen, body_breaks, stored_breaks}
 use Rattle.name_statements.specs.declared.queries.Whole.{Whole}
-use Rattle.name_meaning.proofs.Every.{back-none, front-none}
 use Rattle.name_statements.proofs.Bodies.{limited_by, limits-behind}
 use Rattle.name_statements.proofs.Refused.{Refuses, behind, by-whole, of-limits, of-names, resolves-not, stays}
 use Rattle.name_meaning.specs.declared.rule.Rule.TheVariants as rule

@@ -101,12 +101,6 @@ pub repeats-told : (m : QueryMeant) (shown : QueryShown) (columns : List ShownCo
 repeats-told m shown columns at told whole same is =
     ap (λ (cs : List KnownColumn). first_or (broken_if (words.repeats (names_of cs)) rule.RepeatedColumn at) (tt {0})) (known-here m shown columns whole same) ∙ sym is
 
--- what a refusal of a part is answered as
-pub same-refused : {X : Type 0} (P : Result X Refusal → Type 0) (result : Result X Refusal) (refusal : Refusal) → IsErrAnd result (λ (r : Refusal). r ≡ refusal)
-    → P (Err refusal) → P result
-same-refused P (Ok x) refusal is p = absurd is
-same-refused P (Err r) refusal is p = subst (λ (s : Refusal). P (Err s)) (sym is) p
-
 -- what resolves by what is made for it
 pub made-so : {A : Type 0} (c : Contents) (body : StatementBody) (make : A → Resolved) (part : Result A Refusal) (result : Result Resolved Refusal)
     → ResolvesBy c body make part → IfOk result (λ (made : Resolved). IsOkAnd part (λ (a : A). made ≡ make a))

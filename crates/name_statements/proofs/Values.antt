@@ -4,9 +4,7 @@ use Rattle.std.proofs.Common.{refl, ap, sym, subst, ◌∙◌, drop, get_or, app
 use Rattle.std.proofs.lemmas.Bool.{cases_lt}
 use Rattle.std.proofs.Math.ListN.{drop_of_length-le}
 use Rattle.bag_algebra.specs.declared.expr.Expr.{Expr}
-use Rattle.name_seen_parts.proofs.Firsts.{dropped}
 use Rattle.name_statements.proofs.Broken.{value-before, value_break}
-use Rattle.name_meaning.proofs.Every.{back-none, front-none}
 use Rattle.name_made_nodes.specs.Makes.{Makes, before_of, nothing_found}
 use Rattle.name_made_nodes.specs.declared.within.Within.{Within}
 use Rattle.name_meaning.specs.Meanings.{Meant, Surroundings, broken, means_at}
@@ -16,6 +14,7 @@ use Rattle.name_meaning.specs.declared.answer.Break.{Break}
 use Rattle.perm_catalog.specs.Contents.{Contents}
 use Rattle.perm_values.specs.declared.kind.Kind.{Kind}
 use Rattle.perm_values.specs.declared.kind.Kind.TheVariants as kind
+use Rattle.perm_values.proofs.Lists.{front-none, back-none, dropped}
 use Rattle.perm_catalog.specs.Columns.{column_kinds}
 use Rattle.perm_catalog.specs.declared.column.Column.{Column}
 use Rattle.perm_catalog.specs.declared.entries.TableEntry.{TableEntry}

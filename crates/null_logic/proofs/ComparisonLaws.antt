@@ -5,14 +5,14 @@ use Rattle.std.specs.List.{list_any}
 use Rattle.std.specs.Ordering.{ordering_reverse, is_eq}
 use Rattle.std.specs.declared.cmp.Ordering.{Ordering}
 use Rattle.std.specs.declared.cmp.Ordering.TheVariants as order
-use Rattle.null_logic.specs.Comparison.{holds, is_null, compare_values, mirrored, in_list}
+use Rattle.null_logic.specs.Comparison.{holds, compare_values, mirrored, in_list}
 use Rattle.null_logic.specs.Logic.{truth_or, is_true, known}
 use Rattle.null_logic.specs.declared.compare.Compare.{Compare}
 use Rattle.null_logic.specs.declared.compare.Compare.TheVariants.{Equal, NotEqual, Less, LessEqual, Greater, GreaterEqual}
 use Rattle.null_logic.specs.declared.truth.Truth.{Truth}
 use Rattle.null_logic.specs.declared.truth.Truth.TheVariants.{True, False, Unknown}
 use Rattle.perm_values.specs.ValueLaws.{value_cmp_total, value_ties}
-use Rattle.perm_values.specs.Values.{same_value, value_cmp}
+use Rattle.perm_values.specs.Values.{same_value, value_cmp, is_null}
 use Rattle.perm_values.specs.declared.value.Value.{Value}
 
 holds-mirrored : (op : Compare) (o : Ordering) → holds op o ≡ holds (mirrored op) (ordering_reverse o)
@@ -46,7 +46,7 @@ compare_values-mirrored op a b =
     swapped (is_null a) (is_null b) (holds op (value_cmp a b)) (holds (mirrored op) (value_cmp b a))
     (holds-mirrored op (value_cmp a b) ∙ ap (holds (mirrored op)) (sym (value_cmp_total.antisymm b a)))
 
-holds-equal : (o : Ordering) → holds Equal o ≡ is_eq o
+pub holds-equal : (o : Ordering) → holds Equal o ≡ is_eq o
 holds-equal order.Less = refl
 holds-equal order.Equal = refl
 holds-equal order.Greater = refl
@@ -55,7 +55,7 @@ is_true-known : (h : Bool) → is_true (known h) ≡ h
 is_true-known true = refl
 is_true-known false = refl
 
-beside_no_null : (m n h s : Bool) → h ≡ s → is_true (cond (m || n) Unknown (known h)) ≡ (not m && not n && s)
+pub beside_no_null : (m n h s : Bool) → h ≡ s → is_true (cond (m || n) Unknown (known h)) ≡ (not m && not n && s)
 beside_no_null true true h s e = refl
 beside_no_null true false h s e = refl
 beside_no_null false true h s e = refl

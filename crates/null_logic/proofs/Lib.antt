@@ -1,4 +1,4 @@
-mod ComparisonLaws
+pub mod ComparisonLaws
 mod Keys
 mod LikeLaws
 mod Walk

@@ -7,9 +7,8 @@ use Rattle.null_logic.specs.declared.compare.Compare.{Compare}
 use Rattle.null_logic.specs.declared.compare.Compare.TheVariants.{Equal, NotEqual, Less, LessEqual, Greater, GreaterEqual}
 use Rattle.null_logic.specs.declared.truth.Truth.{Truth}
 use Rattle.null_logic.specs.declared.truth.Truth.TheVariants.{False, Unknown}
-use Rattle.perm_values.specs.Values.{value_cmp}
+use Rattle.perm_values.specs.Values.{value_cmp, is_null}
 use Rattle.perm_values.specs.declared.value.Value.{Value}
-use Rattle.perm_values.specs.declared.value.Value.TheVariants.{Null, Integer, Text, Boolean}
 
 -- whether the comparison holds of two values that stand in this order
 abbrev pub holds : Compare → Ordering → Bool
@@ -31,12 +30,6 @@ holds Greater order.Greater = true
 holds GreaterEqual order.Less = false
 holds GreaterEqual order.Equal = true
 holds GreaterEqual order.Greater = true
-
-abbrev pub is_null : Value → Bool
-is_null Null = true
-is_null (Integer a) = false
-is_null (Text a) = false
-is_null (Boolean a) = false
 
 -- unknown beside NULL, otherwise by the order of values
 abbrev pub compare_values : Compare → Value → Value → Truth

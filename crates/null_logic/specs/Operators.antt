@@ -15,6 +15,19 @@ use Rattle.null_logic.specs.declared.operator.Operator.TheVariants as operator
 use Rattle.perm_values.specs.declared.kind.Kind.{Kind}
 use Rattle.perm_values.specs.declared.kind.Kind.TheVariants.{Integer, Boolean}
 
+abbrev pub is_and : Operator → Bool
+is_and operator.And = true
+is_and operator.Or = false
+is_and operator.Not = false
+is_and operator.Negate = false
+is_and (operator.Compare c) = false
+is_and (operator.Arith c) = false
+is_and operator.Like = false
+is_and operator.Between = false
+is_and operator.InList = false
+is_and operator.Coalesce = false
+is_and operator.NullIf = false
+
 abbrev pub compare_spelling : Compare → List ℕ
 compare_spelling compare.Equal = codes "="
 compare_spelling compare.NotEqual = codes "<>"

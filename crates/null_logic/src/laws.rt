@@ -4,7 +4,7 @@ ghost use Rattle.std.specs.Bool.{Decides};
 ghost use Rattle.std.specs.Int.{w64};
 ghost use Rattle.std.specs.List.{list_any};
 ghost use Rattle.null_logic.specs.Arithmetic.{exact, divides, fits_64, calculate, negate};
-ghost use Rattle.null_logic.specs.Comparison.{is_null, compare_values, opposite, mirrored, between, in_list};
+ghost use Rattle.null_logic.specs.Comparison.{compare_values, opposite, mirrored, between, in_list};
 ghost use Rattle.null_logic.specs.Like.{any_run, any_one, like, IsLiteral};
 ghost use Rattle.null_logic.specs.Logic.{truth_and, truth_or, truth_not, is_true};
 ghost use Rattle.null_logic.specs.Operators.{HasKey, entry_of, keys_differ, operator_table, row_spelling, row_of};
@@ -14,7 +14,7 @@ ghost use Rattle.null_logic.specs.declared.operator.OpRow.{OpRow};
 ghost use Rattle.null_logic.specs.declared.run_fault.RunFault.{RunFault};
 ghost use Rattle.null_logic.specs.declared.truth.Truth.{Truth};
 ghost use Rattle.null_logic.specs.declared.truth.Truth.TheVariants.{False};
-ghost use Rattle.perm_values.specs.Values.{same_value};
+ghost use Rattle.perm_values.specs.Values.{same_value, is_null};
 ghost use Rattle.perm_values.specs.declared.value.Value.{Value as Cell};
 
 use crate::OPERATORS;

@@ -16,7 +16,7 @@ pub use laws::{
     comparisons_have_their_laws, connectives_have_their_laws, division_goes_towards_zero,
     like_has_its_laws, look_up_is_exact, operators_are_their_table,
 };
-pub use operator::{Needs, OPERATORS, OpRow, OpTable, Operator};
+pub use operator::{Needs, OPERATORS, OpRow, OpTable, Operator, is_and};
 pub use pattern::like;
 pub use run_fault::RunFault;
 pub use truth::Truth;

@@ -1,6 +1,6 @@
 ghost use Rattle.std.specs.Prelude.{◌≡◌, IfOk};
 ghost use Rattle.std.specs.Option.{option_copied};
-ghost use Rattle.null_logic.specs.Operators.{operator_spelling, row_spelling, has_key, row_of};
+ghost use Rattle.null_logic.specs.Operators.{is_and, operator_spelling, row_spelling, has_key, row_of};
 
 use crate::{Arith, Compare};
 use perm_values::{Copyable, Kind, NoMemory};
@@ -41,6 +41,13 @@ impl Operator {
             Operator::NullIf => "NULLIF",
         }
     }
+}
+
+/// Whether it is AND. It takes no memory.
+pub fn is_and(op: Operator) -> bool
+    ensures { result ≡ is_and op }
+{
+    matches!(op, Operator::And)
 }
 
 impl Copyable for Operator {

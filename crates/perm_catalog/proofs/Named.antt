@@ -8,6 +8,7 @@ use Rattle.std.proofs.lemmas.Map.Made.{is_some-lookup}
 use Rattle.std.specs.Cmp.Lexicographic.{pointwise, nat_list_eq_equiv, bytes_decides}
 use Rattle.std.specs.List.{insert, AllByRecursion, IsDistinct}
 use Rattle.std.specs.Map.{lookup, set_value, remove_entry, keys_of}
+use Rattle.perm_values.proofs.Steps.{none_is_some}
 use Rattle.perm_catalog.specs.Changes.{named, changed}
 
 abbrev same : List ℕ → List ℕ → Bool
@@ -28,9 +29,6 @@ set_value-by f v e test es more true after h =
     let here : e.1 ≡ v = cc in
     ap (λ x. (e.0, f x) ∷ es) (sym here)
 set_value-by f v e test es more false after h = ap (λ l. e ∷ l) (after h)
-
-none_is_some : {X : Type 0} {P : Type 0} {x : X} → None ≡ Some x → P
-none_is_some e = cc
 
 -- what is written to a look-up's value changes the entry in its place
 pub set_value-changed : {X : Type 0} (f : X → X) (name : List ℕ) (v : X) (es : List (List ℕ × X)) → named es name ≡ Some v →

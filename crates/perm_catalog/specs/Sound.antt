@@ -4,10 +4,11 @@ use Rattle.std.specs.Cmp.Lexicographic.{pointwise}
 use Rattle.std.specs.FinMap as map
 use Rattle.std.specs.List.{IsDistinct}
 use Rattle.std.specs.Map.{keys_of}
+use Rattle.perm_values.specs.Rows.{KeysWithin, PlacesWithin}
 use Rattle.bag_algebra.specs.Bags.{Bag}
 use Rattle.bag_algebra.specs.Fits.{bag_fits}
 use Rattle.bag_algebra.specs.Kinds.{width_of}
-use Rattle.bag_algebra.specs.WellFormed.{WellFormed, PlacesIn, KeysIn}
+use Rattle.bag_algebra.specs.WellFormed.{WellFormed}
 use Rattle.bag_algebra.specs.declared.query.Answer.{Answer}
 use Rattle.perm_catalog.specs.Changes.{table_named, view_named}
 use Rattle.perm_catalog.specs.Columns.{AreTableColumns, column_kinds}
@@ -43,12 +44,12 @@ pub record IsSoundAnswer (answer : Answer) : Type 0 where
   pub closed : WellFormed [] answer.query
   pub some : 0 < width_of answer.query
   pub named : length answer.names ≡ width_of answer.query
-  pub keys : KeysIn (width_of answer.query) answer.keys
+  pub keys : KeysWithin (width_of answer.query) answer.keys
 
 -- its answer is sound, its places are among the columns, and every table that it reads is held and named
 pub record IsSoundView (c : Contents) (view : ViewEntry) : Type 0 where
   pub answer : IsSoundAnswer view.answer
-  pub places : IfSome view.places (PlacesIn (width_of view.answer.query))
+  pub places : IfSome view.places (PlacesWithin (width_of view.answer.query))
   pub reads : All (IsHeldRead c view) (tables_read view.answer.query)
 
 -- names differ, identities differ, and each table and view is sound

@@ -2,6 +2,7 @@
 use Rattle.std.specs.Prelude.{◌≡◌, ℕ, ◌<◌, Bool, false, not, List, [], ◌∷◌, length, filter, Option, Some, None, All, Contains, nat_eq}
 use Rattle.std.specs.List.{find, flat_map}
 use Rattle.std.specs.Option.{option_map_or}
+use Rattle.perm_values.specs.Rows.{PlacesWithin}
 use Rattle.perm_values.specs.declared.kind.Kind.{Kind}
 use Rattle.bag_algebra.specs.Bags.{Bag}
 use Rattle.bag_algebra.specs.Kinds.{kinds_of}
@@ -10,7 +11,7 @@ use Rattle.bag_algebra.specs.Outcome.{Good}
 use Rattle.bag_algebra.specs.Rewriting.{SameRows}
 use Rattle.bag_algebra.specs.TableRows.{rows_in}
 use Rattle.bag_algebra.specs.TablesRead.{TableRead, tables_read, EachTable}
-use Rattle.bag_algebra.specs.WellFormed.{WellFormed, PlacesIn}
+use Rattle.bag_algebra.specs.WellFormed.{WellFormed}
 use Rattle.bag_algebra.specs.built.Patterns.{ProvOf}
 use Rattle.bag_algebra.specs.declared.query.Query.{Query}
 use Rattle.perm_catalog.specs.Changes.{table_named}
@@ -78,7 +79,7 @@ pub record IsSoundMark (c : Contents) (columns : List Column) (rows : Bag) (mark
   pub asks : mark.query ≡ ProvOf input
   pub closed : WellFormed [] mark.query
   pub kinds : kinds_of mark.query ≡ column_kinds columns
-  pub places : PlacesIn (length columns) mark.places
+  pub places : PlacesWithin (length columns) mark.places
   pub drawn : All (IsDrawn c) mark.kept
   pub reads : EachTable (IsKeptTable c mark.kept) mark.query
   pub holds : IsFresh c mark → SameRows (meaning mark.query (rows_in c.rows) []) (Good rows)

@@ -2,7 +2,7 @@
 use Rattle.std.proofs.Common.{◌≡◌, ℕ, zero, suc, ◌+◌, ◌-◌, ◌≤◌, [], ◌∷◌, ◌++◌, ap, ◌∙◌, refl, arith}
 use Rattle.std.specs.List.{range_with_len}
 
-range-next : (first count : ℕ) → range_with_len first (suc count) ≡ range_with_len first count ++ (first + count) ∷ []
+pub range-next : (first count : ℕ) → range_with_len first (suc count) ≡ range_with_len first count ++ (first + count) ∷ []
 range-next first zero = let same : first ≡ first + 0 = omega arith in ap (λ place. place ∷ []) same
 range-next first (suc count) =
     let last : first + 1 + count ≡ first + suc count = omega arith in

@@ -10,6 +10,12 @@ use Rattle.perm_values.specs.declared.kind.Kind.TheVariants as kind
 use Rattle.perm_values.specs.declared.value.Value.{Value}
 use Rattle.perm_values.specs.declared.value.Value.TheVariants.{Null, Integer, Text, Boolean}
 
+abbrev pub is_null : Value → Bool
+is_null Null = true
+is_null (Integer a) = false
+is_null (Text a) = false
+is_null (Boolean a) = false
+
 -- equal values of one kind, and two NULLs
 abbrev pub same_value : Value → Value → Bool
 same_value Null Null = true

@@ -4,9 +4,8 @@ use Rattle.std.specs.Prelude.{◌==◌}
 use Rattle.std.proofs.lemmas.Bool.Decides.{nat_tests}
 use Rattle.std.proofs.Math.Nat.{le-max_left, le-max_right}
 use Rattle.std.proofs.lemmas.List.{get_or-take}
-use Rattle.null_logic.specs.Comparison.{is_null}
 use Rattle.perm_values.specs.Rows.{value_at}
-use Rattle.perm_values.specs.Values.{same_value}
+use Rattle.perm_values.specs.Values.{same_value, is_null}
 use Rattle.perm_values.specs.declared.value.Value.{Value}
 use Rattle.perm_values.specs.declared.value.Value.TheVariants.{Boolean, Null}
 use Rattle.bag_algebra.specs.Bags.{Row}
@@ -25,17 +24,17 @@ use Rattle.bag_algebra.specs.declared.query.Query.TheVariants.{Table, Single}
 use Rattle.query_facts.specs.reached.Reach.{column_reach, expr_reach, parts_reach, steps_reach, arms_reach, option_reach, items_reach, aggregates_reach, query_reach, subs_reach, reads_own_row}
 
 -- what is within a number where the greater of two is
-left : (a b n : ℕ) → max a b ≤ n → a ≤ n
-left a b n h = omega (arith, le-max_left a b)
+pub max-left : (a b n : ℕ) → max a b ≤ n → a ≤ n
+max-left a b n h = omega (arith, le-max_left a b)
 
-right : (a b n : ℕ) → max a b ≤ n → b ≤ n
-right a b n h = omega (arith, le-max_right a b)
+pub max-right : (a b n : ℕ) → max a b ≤ n → b ≤ n
+max-right a b n h = omega (arith, le-max_right a b)
 
 -- the rows have the same values, but for what is behind the first n columns of the row at the level
 abbrev pub Alike : ℕ → ℕ → List Row → List Row → Type 0
 Alike level n env other = (own place : ℕ) → column_reach own place level ≤ n → value_at (row_at env own) place ≡ value_at (row_at other own) place
 
-one_level : (own level : ℕ) → (suc own == suc level) ≡ (own == level)
+pub one_level : (own level : ℕ) → (suc own == suc level) ≡ (own == level)
 one_level own level = grind (arith, nat_tests)
 
 one_further : (level n : ℕ) (u : Row) (env other : List Row) → Alike level n env other → Alike (suc level) n (u ∷ env) (u ∷ other)
@@ -51,42 +50,42 @@ module _ (level n : ℕ) (u v : Row) (env other : List Row) (same : Alike level 
     value-alike (Lit constant kind) w = refl
     value-alike (OpOf o _ parts) w = λ i. and_then (values-alike parts w i) (operate o)
     value-alike (ChainOf first _ steps) w =
-        let here = value-alike first (left (expr_reach first level) (steps_reach steps level) n w) in
-        let rest = step_values-alike steps (right (expr_reach first level) (steps_reach steps level) n w) in
+        let here = value-alike first (max-left (expr_reach first level) (steps_reach steps level) n w) in
+        let rest = step_values-alike steps (max-right (expr_reach first level) (steps_reach steps level) n w) in
         λ i. both_then (here i) (rest i) chain
     value-alike (CaseOf _ arms otherwise) w =
         arm_value-alike arms (value otherwise u env answers) (value otherwise v other answers)
-        (left (arms_reach arms level) (expr_reach otherwise level) n w)
-        (value-alike otherwise (right (arms_reach arms level) (expr_reach otherwise level) n w))
+        (max-left (arms_reach arms level) (expr_reach otherwise level) n w)
+        (value-alike otherwise (max-right (arms_reach arms level) (expr_reach otherwise level) n w))
     value-alike (Sub number) w = refl
     value-alike (IsNullOf part) w = ap (mapped (λ x. Boolean (is_null x))) (value-alike part w)
     value-alike (IsTruthOf truth part) w = ap (mapped (λ x. Boolean (has_truth truth x))) (value-alike part w)
     value-alike (SameOf first second) w =
-        let here = value-alike first (left (expr_reach first level) (expr_reach second level) n w) in
-        let there = value-alike second (right (expr_reach first level) (expr_reach second level) n w) in
+        let here = value-alike first (max-left (expr_reach first level) (expr_reach second level) n w) in
+        let there = value-alike second (max-right (expr_reach first level) (expr_reach second level) n w) in
         λ i. both (λ x y. Boolean (same_value x y)) (here i) (there i)
 
     values-alike : {m : _} (parts : Row_of-Expr m) → parts_reach parts level ≤ n → values parts u env answers ≡ values parts v other answers
     values-alike end_of-Expr w = refl
     values-alike (more_of-Expr part parts) w =
-        let here = value-alike part (left (expr_reach part level) (parts_reach parts level) n w) in
-        let rest = values-alike parts (right (expr_reach part level) (parts_reach parts level) n w) in
+        let here = value-alike part (max-left (expr_reach part level) (parts_reach parts level) n w) in
+        let rest = values-alike parts (max-right (expr_reach part level) (parts_reach parts level) n w) in
         λ i. both (λ x xs. x ∷ xs) (here i) (rest i)
 
     step_values-alike : {m : _} (steps : Row_of-ChainStep m) → steps_reach steps level ≤ n → step_values steps u env answers ≡ step_values steps v other answers
     step_values-alike end_of-ChainStep w = refl
     step_values-alike (more_of-ChainStep operation part steps) w =
-        let here = value-alike part (left (expr_reach part level) (steps_reach steps level) n w) in
-        let rest = step_values-alike steps (right (expr_reach part level) (steps_reach steps level) n w) in
+        let here = value-alike part (max-left (expr_reach part level) (steps_reach steps level) n w) in
+        let rest = step_values-alike steps (max-right (expr_reach part level) (steps_reach steps level) n w) in
         λ i. both (λ x ss. record { operation = operation; operand = x } ∷ ss) (here i) (rest i)
 
     arm_value-alike : {m : _} (arms : Row_of-Arm m) (o p : Outcome Value) → arms_reach arms level ≤ n → o ≡ p → arm_value arms u env answers o ≡ arm_value arms v other answers p
     arm_value-alike end_of-Arm o p w e = e
     arm_value-alike (more_of-Arm condition arm arms) o p w e =
-        let own = left (max (expr_reach condition level) (expr_reach arm level)) (arms_reach arms level) n w in
-        let test = value-alike condition (left (expr_reach condition level) (expr_reach arm level) n own) in
-        let here = value-alike arm (right (expr_reach condition level) (expr_reach arm level) n own) in
-        let rest = arm_value-alike arms o p (right (max (expr_reach condition level) (expr_reach arm level)) (arms_reach arms level) n w) e in
+        let own = max-left (max (expr_reach condition level) (expr_reach arm level)) (arms_reach arms level) n w in
+        let test = value-alike condition (max-left (expr_reach condition level) (expr_reach arm level) n own) in
+        let here = value-alike arm (max-right (expr_reach condition level) (expr_reach arm level) n own) in
+        let rest = arm_value-alike arms o p (max-right (max (expr_reach condition level) (expr_reach arm level)) (arms_reach arms level) n w) e in
         λ i. chosen_arm (test i) (here i) (rest i)
 
 own-alike : (u v : Row) (env : List Row) → Alike 0 0 (u ∷ env) (v ∷ env)
@@ -111,16 +110,16 @@ module _ (level n : ℕ) (env other : List Row) (same : Alike level n env other)
       each (λ (item : Item). value item.expr u env answers) items ≡ each (λ (item : Item). value item.expr u other answers) items
   items-alike [] w u answers = refl
   items-alike (item ∷ items) w u answers =
-      let own = left (expr_reach item.expr (suc level)) (items_reach items (suc level)) n w in
+      let own = max-left (expr_reach item.expr (suc level)) (items_reach items (suc level)) n w in
       let here = value-alike (suc level) n u u env other (one_further level n u env other same) answers item.expr own in
-      let rest = items-alike items (right (expr_reach item.expr (suc level)) (items_reach items (suc level)) n w) u answers in
+      let rest = items-alike items (max-right (expr_reach item.expr (suc level)) (items_reach items (suc level)) n w) u answers in
       λ i. both (λ v vs. v ∷ vs) (here i) (rest i)
 
   arguments-alike : (aggregates : List Aggr) → aggregates_reach aggregates (suc level) ≤ n → (u : Row) → arguments_on aggregates env u ≡ arguments_on aggregates other u
   arguments-alike [] w u = refl
   arguments-alike (aggregate ∷ aggregates) w u =
-      let here = option-alike aggregate.argument (left (option_reach aggregate.argument (suc level)) (aggregates_reach aggregates (suc level)) n w) in
-      let rest = arguments-alike aggregates (right (option_reach aggregate.argument (suc level)) (aggregates_reach aggregates (suc level)) n w) u in
+      let here = option-alike aggregate.argument (max-left (option_reach aggregate.argument (suc level)) (aggregates_reach aggregates (suc level)) n w) in
+      let rest = arguments-alike aggregates (max-right (option_reach aggregate.argument (suc level)) (aggregates_reach aggregates (suc level)) n w) u in
       λ i. both (λ v vs. v ∷ vs) (here i u) (rest i)
 
   condition_on-alike : (condition : Expr) (s r : SubMeans) → expr_reach condition (suc level) ≤ n → s ≡ r → condition_on condition env s ≡ condition_on condition other r
@@ -139,51 +138,51 @@ mutual
   denote-alike (BaseOf input places label) level n db env other w same = ap (base_means places) (denote-alike input level n db env other w same)
   denote-alike (FilterOf input condition _ subs) level n db env other w same =
       let beyond = suc level in
-      let own = left (max (query_reach input beyond) (expr_reach condition beyond)) (subs_reach subs beyond) n w in
-      let rows = denote-alike input level n db env other (left (query_reach input beyond) (expr_reach condition beyond) n own) same in
-      let e = sub_denote-alike subs level n db env other (right (max (query_reach input beyond) (expr_reach condition beyond)) (subs_reach subs beyond) n w) same in
-      let c = condition_on-alike level n env other same condition (sub_denote subs db env) (sub_denote subs db other) (right (query_reach input beyond) (expr_reach condition beyond) n own) e in
+      let own = max-left (max (query_reach input beyond) (expr_reach condition beyond)) (subs_reach subs beyond) n w in
+      let rows = denote-alike input level n db env other (max-left (query_reach input beyond) (expr_reach condition beyond) n own) same in
+      let e = sub_denote-alike subs level n db env other (max-right (max (query_reach input beyond) (expr_reach condition beyond)) (subs_reach subs beyond) n w) same in
+      let c = condition_on-alike level n env other same condition (sub_denote subs db env) (sub_denote subs db other) (max-right (query_reach input beyond) (expr_reach condition beyond) n own) e in
       λ i. filter_means (c i) (e i).contributions (rows i)
   denote-alike (ProjectOf input items _ subs) level n db env other w same =
       let beyond = suc level in
-      let own = left (max (query_reach input beyond) (items_reach items beyond)) (subs_reach subs beyond) n w in
-      let rows = denote-alike input level n db env other (left (query_reach input beyond) (items_reach items beyond) n own) same in
-      let e = sub_denote-alike subs level n db env other (right (max (query_reach input beyond) (items_reach items beyond)) (subs_reach subs beyond) n w) same in
-      let c = items_on-alike level n env other same items (sub_denote subs db env) (sub_denote subs db other) (right (query_reach input beyond) (items_reach items beyond) n own) e in
+      let own = max-left (max (query_reach input beyond) (items_reach items beyond)) (subs_reach subs beyond) n w in
+      let rows = denote-alike input level n db env other (max-left (query_reach input beyond) (items_reach items beyond) n own) same in
+      let e = sub_denote-alike subs level n db env other (max-right (max (query_reach input beyond) (items_reach items beyond)) (subs_reach subs beyond) n w) same in
+      let c = items_on-alike level n env other same items (sub_denote subs db env) (sub_denote subs db other) (max-right (query_reach input beyond) (items_reach items beyond) n own) e in
       λ i. project_means (c i) (e i).contributions (rows i)
   denote-alike (JoinOf kind first second condition _ subs) level n db env other w same =
       let beyond = suc level in
       let inputs = max (query_reach first beyond) (query_reach second beyond) in
-      let own = left (max inputs (expr_reach condition beyond)) (subs_reach subs beyond) n w in
-      let sides = left inputs (expr_reach condition beyond) n own in
-      let lefts = denote-alike first level n db env other (left (query_reach first beyond) (query_reach second beyond) n sides) same in
-      let rights = denote-alike second level n db env other (right (query_reach first beyond) (query_reach second beyond) n sides) same in
-      let e = sub_denote-alike subs level n db env other (right (max inputs (expr_reach condition beyond)) (subs_reach subs beyond) n w) same in
-      let c = condition_on-alike level n env other same condition (sub_denote subs db env) (sub_denote subs db other) (right inputs (expr_reach condition beyond) n own) e in
+      let own = max-left (max inputs (expr_reach condition beyond)) (subs_reach subs beyond) n w in
+      let sides = max-left inputs (expr_reach condition beyond) n own in
+      let lefts = denote-alike first level n db env other (max-left (query_reach first beyond) (query_reach second beyond) n sides) same in
+      let rights = denote-alike second level n db env other (max-right (query_reach first beyond) (query_reach second beyond) n sides) same in
+      let e = sub_denote-alike subs level n db env other (max-right (max inputs (expr_reach condition beyond)) (subs_reach subs beyond) n w) same in
+      let c = condition_on-alike level n env other same condition (sub_denote subs db env) (sub_denote subs db other) (max-right inputs (expr_reach condition beyond) n own) e in
       λ i. join_means kind (c i) (e i).contributions (record { left = all_empty (shape first); right = all_empty (shape second); subs = (e i).blank })
       (width_of first) (width_of second) (lefts i) (rights i)
   denote-alike (ApplyOf kind first second) level n db env other w same =
       let here = query_reach first (suc level) in
       let inside = query_reach second (suc (suc level)) in
-      let lefts = denote-alike first level n db env other (left here inside n w) same in
+      let lefts = denote-alike first level n db env other (max-left here inside n w) same in
       λ i. apply_means kind (width_of second) (all_empty (shape second)) (lefts i)
-      (λ u. denote-alike second (suc level) n db (u ∷ env) (u ∷ other) (right here inside n w) (one_further level n u env other same) i)
+      (λ u. denote-alike second (suc level) n db (u ∷ env) (u ∷ other) (max-right here inside n w) (one_further level n u env other same) i)
   denote-alike (UnionOf all first second) level n db env other w same =
-      let lefts = denote-alike first level n db env other (left (query_reach first (suc level)) (query_reach second (suc level)) n w) same in
-      let rights = denote-alike second level n db env other (right (query_reach first (suc level)) (query_reach second (suc level)) n w) same in
+      let lefts = denote-alike first level n db env other (max-left (query_reach first (suc level)) (query_reach second (suc level)) n w) same in
+      let rights = denote-alike second level n db env other (max-right (query_reach first (suc level)) (query_reach second (suc level)) n w) same in
       λ i. union_means all (all_empty (shape first)) (all_empty (shape second)) (lefts i) (rights i)
   denote-alike (IntersectOf all first second) level n db env other w same =
-      let lefts = denote-alike first level n db env other (left (query_reach first (suc level)) (query_reach second (suc level)) n w) same in
-      let rights = denote-alike second level n db env other (right (query_reach first (suc level)) (query_reach second (suc level)) n w) same in
+      let lefts = denote-alike first level n db env other (max-left (query_reach first (suc level)) (query_reach second (suc level)) n w) same in
+      let rights = denote-alike second level n db env other (max-right (query_reach first (suc level)) (query_reach second (suc level)) n w) same in
       λ i. intersect_means all (lefts i) (rights i)
   denote-alike (ExceptOf all first second) level n db env other w same =
-      let lefts = denote-alike first level n db env other (left (query_reach first (suc level)) (query_reach second (suc level)) n w) same in
-      let rights = denote-alike second level n db env other (right (query_reach first (suc level)) (query_reach second (suc level)) n w) same in
+      let lefts = denote-alike first level n db env other (max-left (query_reach first (suc level)) (query_reach second (suc level)) n w) same in
+      let rights = denote-alike second level n db env other (max-right (query_reach first (suc level)) (query_reach second (suc level)) n w) same in
       λ i. except_means all (all_empty (shape second)) (lefts i) (rights i)
   denote-alike (DistinctOf input) level n db env other w same = ap distinct_means (denote-alike input level n db env other w same)
   denote-alike (AggregateOf input groups aggregates) level n db env other w same =
-      let rows = denote-alike input level n db env other (left (query_reach input (suc level)) (aggregates_reach aggregates (suc level)) n w) same in
-      let arguments = arguments-alike level n env other same aggregates (right (query_reach input (suc level)) (aggregates_reach aggregates (suc level)) n w) in
+      let rows = denote-alike input level n db env other (max-left (query_reach input (suc level)) (aggregates_reach aggregates (suc level)) n w) same in
+      let arguments = arguments-alike level n env other same aggregates (max-right (query_reach input (suc level)) (aggregates_reach aggregates (suc level)) n w) in
       λ i. aggregate_means groups (map (λ (aggregate : Aggr). aggregate.function) aggregates) (λ u. arguments u i) (all_empty (shape input)) (rows i)
   denote-alike (LimitOf input keys count) level n db env other w same = ap (limit_means keys count) (denote-alike input level n db env other w same)
   denote-alike (ProvOf input) level n db env other w same = ap provenance_means (denote-alike input level n db env other w same)
@@ -194,11 +193,11 @@ mutual
   sub_denote-alike (more_of-Sublink kind tested query subs) level n db env other w same =
       let here = option_reach tested (suc level) in
       let inside = query_reach query (suc (suc level)) in
-      let own = left (max here inside) (subs_reach subs (suc level)) n w in
-      let operand = option-alike level n env other same tested (left here inside n own) in
-      let rest = sub_denote-alike subs level n db env other (right (max here inside) (subs_reach subs (suc level)) n w) same in
+      let own = max-left (max here inside) (subs_reach subs (suc level)) n w in
+      let operand = option-alike level n env other same tested (max-left here inside n own) in
+      let rest = sub_denote-alike subs level n db env other (max-right (max here inside) (subs_reach subs (suc level)) n w) same in
       λ i. with_sub kind (operand i)
-      (λ u. denote-alike query (suc level) n db (u ∷ env) (u ∷ other) (right here inside n own) (one_further level n u env other same) i)
+      (λ u. denote-alike query (suc level) n db (u ∷ env) (u ∷ other) (max-right here inside n own) (one_further level n u env other same) i)
       (all_empty (shape query)) (rest i)
 
 -- ---- as the laws say it

@@ -2,11 +2,11 @@
 use Rattle.std.proofs.Common.{◌≡◌, subst, ℕ, zero, suc, ◌≤◌, max, false, nat_lt, cond, List, [], ◌∷◌, ◌++◌, length, get_or, drop, map, Option, Some, None, refl, sym, ap, ◌∙◌, arith}
 use Rattle.std.proofs.lemmas.Bool.Decides.{nat_tests}
 use Rattle.std.proofs.lemmas.List.Elements.{All-nil, All-cons, All-head, All-tail}
+use Rattle.std.proofs.lemmas.Bool.{or_right}
 use Rattle.std.specs.Prelude.{◌==◌, Bool, true, ◌&&◌, ◌||◌, All}
 use Rattle.std.specs.List.{flat_map, list_any}
-use Rattle.null_logic.specs.Comparison.{is_null}
 use Rattle.perm_values.specs.Rows.{value_at, picked}
-use Rattle.perm_values.specs.Values.{same_value}
+use Rattle.perm_values.specs.Values.{same_value, is_null}
 use Rattle.perm_values.specs.declared.value.Value.{Value}
 use Rattle.perm_values.specs.declared.value.Value.TheVariants.{Boolean, Null}
 use Rattle.bag_algebra.specs.Bags.{Row}
@@ -26,9 +26,9 @@ use Rattle.query_facts.specs.reached.reads.Columns.{column_at, expr_columns, par
 use Rattle.query_facts.specs.declared.reached.reads.queries.Column.{Column}
 
 -- what holds of all of two lists
-left : {X : Type 0} (P : X → Type 0) (xs ys : List X) → All P (xs ++ ys) → All P xs
-left P [] ys h = All-nil P
-left P (x ∷ xs) ys h = All-cons P x xs (All-head P x (xs ++ ys) h) (left P xs ys (All-tail P x (xs ++ ys) h))
+pub all-first : {X : Type 0} (P : X → Type 0) (xs ys : List X) → All P (xs ++ ys) → All P xs
+all-first P [] ys h = All-nil P
+all-first P (x ∷ xs) ys h = All-cons P x xs (All-head P x (xs ++ ys) h) (all-first P xs ys (All-tail P x (xs ++ ys) h))
 
 right : {X : Type 0} (P : X → Type 0) (xs ys : List X) → All P (xs ++ ys) → All P ys
 right P [] ys h = h
@@ -39,7 +39,7 @@ abbrev Same_in : List Row → List Row → Column → Type 0
 Same_in rows others column = value_at (row_at rows column.level) column.place ≡ value_at (row_at others column.level) column.place
 
 first_of : (rows others : List Row) (xs ys : List Column) → Agree (xs ++ ys) rows others → Agree xs rows others
-first_of rows others xs ys h = left (Same_in rows others) xs ys h
+first_of rows others xs ys h = all-first (Same_in rows others) xs ys h
 
 second_of : (rows others : List Row) (xs ys : List Column) → Agree (xs ++ ys) rows others → Agree ys rows others
 second_of rows others xs ys h = right (Same_in rows others) xs ys h
@@ -218,17 +218,13 @@ meaning-alike q db env other w = ap (λ m. m.rows) (denote-alike q db env other 
 nearest_is : (place : ℕ) (rest : Bool) → (((zero == zero) && (place == place)) || rest) ≡ true
 nearest_is place rest = grind (arith, nat_tests)
 
-still : (b rest : Bool) → rest ≡ true → (b || rest) ≡ true
-still true rest h = refl
-still false rest h = h
-
 -- rows with the same values at the nearest row's places agree on all columns
 nearest-agree : (u v : Row) (env : List Row) (columns : List Column) → ((place : ℕ) → is_nearest columns place ≡ true → value_at u place ≡ value_at v place) → Agree columns (u ∷ env) (v ∷ env)
 nearest-agree u v env [] same = All-nil (Same_in (u ∷ env) (v ∷ env))
 nearest-agree u v env (column ∷ columns) same =
     All-cons (Same_in (u ∷ env) (v ∷ env)) column columns
     (here column.level column.place (same column.place))
-    (nearest-agree u v env columns (λ place h. same place (still ((column.level == 0) && (column.place == place)) (is_nearest columns place) h)))
+    (nearest-agree u v env columns (λ place h. same place (or_right ((column.level == 0) && (column.place == place)) (is_nearest columns place) h)))
   where
     here : (level place : ℕ) → ((((level == 0) && (place == place)) || is_nearest columns place) ≡ true → value_at u place ≡ value_at v place) → Same_in (u ∷ env) (v ∷ env) (column_at level place)
     here zero place h = h (nearest_is place (is_nearest columns place))

@@ -5,11 +5,10 @@ use Rattle.std.proofs.lemmas.List.Sums.{length-filter}
 use Rattle.std.specs.Cmp.{IsTotalOrder, upto, back_total}
 use Rattle.std.specs.Ordering.{ordering_reverse, flip_args}
 use Rattle.null_logic.specs.Arithmetic.{fits_64}
-use Rattle.null_logic.specs.Comparison.{is_null}
 use Rattle.null_logic.specs.declared.run_fault.RunFault.TheVariants.{OutOfRange}
 use Rattle.perm_values.specs.Rows.{same_row}
 use Rattle.perm_values.specs.ValueLaws.{value_decides, value_cmp_total}
-use Rattle.perm_values.specs.Values.{same_value, value_cmp}
+use Rattle.perm_values.specs.Values.{same_value, value_cmp, is_null}
 use Rattle.perm_values.specs.declared.value.Value.{Value}
 use Rattle.perm_values.specs.declared.value.Value.TheVariants.{Null, Integer, Text, Boolean}
 use Rattle.bag_algebra.proofs.BagLaws.{Permuted, nothing, onward, turn, joined, permuted-sym, permuted-length, permuted-from_same_bag}

@@ -1,5 +1,6 @@
 -- The aggregates of a class: their values, and when one is out of range.
 use Rattle.std.proofs.Common.{◌≡◌, ℕ, zero, suc, ◌+◌, ℤ, Bool, true, false, cond, Option, Some, List, [], ◌∷◌, map, length, refl, sym, ap, subst, ◌∙◌, arith, true≢false, add-zero, add-suc, suc-add, inl, inr}
+use Rattle.std.proofs.lemmas.Option.{none-some, same_Some}
 use Rattle.std.specs.List.{slice_get}
 use Rattle.null_logic.specs.Arithmetic.{fits_64}
 use Rattle.null_logic.specs.declared.run_fault.RunFault.{RunFault}
@@ -13,7 +14,6 @@ use Rattle.bag_algebra.specs.Outcome.{Outcome, Good, Bad, both, only}
 use Rattle.bag_algebra.specs.declared.query.AggFn.{AggFn}
 use Rattle.bag_algebra.specs.declared.query.AggFn.TheVariants.{CountRows, Count, CountDistinct, Sum, Min, Max}
 use Rattle.query_laws.specs.Faults.{IsGood, Meets}
-use Rattle.query_laws.proofs.Items.{none_some, same_some}
 use Rattle.query_laws.proofs.Outcomes.{both-good, both-meets, meets-both}
 use Rattle.bag_algebra.proofs.Outcomes.{both-is}
 
@@ -73,7 +73,7 @@ aggregated-meets Max vs fault m = absurd m
 
 overflows-meets : (function : AggFn) (vs : List Value) → Overflows (Some function) vs → Meets (aggregated function vs) OutOfRange
 overflows-meets function vs h =
-    subst (λ f. Meets (aggregated f vs) OutOfRange) (sym (same_some function Sum h.0)) (sum-overflows (present vs) h.1)
+    subst (λ f. Meets (aggregated f vs) OutOfRange) (sym (same_Some function Sum h.0)) (sum-overflows (present vs) h.1)
 
 -- ---- the aggregates of a class, one after another: the nth is over the nth column
 
@@ -110,7 +110,7 @@ each_of-meets (function ∷ functions) column fault m =
     ]
 
 pub meets-each_of : (functions : List AggFn) (column : ℕ → List Value) (place : ℕ) → SumAt functions column place → Meets (each_of functions column) OutOfRange
-meets-each_of [] column place h = absurd (none_some Sum h.0)
+meets-each_of [] column place h = absurd (none-some Sum h.0)
 meets-each_of (function ∷ functions) column zero h =
     both-meets (λ v vs. v ∷ vs) (aggregated function (column 0)) (each_of functions (λ n. column (suc n))) OutOfRange
     (inl (overflows-meets function (column 0) h))
@@ -128,7 +128,7 @@ pub record Gives (functions : List AggFn) (column : ℕ → List Value) (values 
 pub each_of-gives : (functions : List AggFn) (column : ℕ → List Value) (values : Row) → each_of functions column ≡ Good values → Gives functions column values
 each_of-gives [] column values e = record {
   long = ap length (sym (same [] values e));
-  each = λ place function h. absurd (none_some function h);
+  each = λ place function h. absurd (none-some function h);
 } where
   same : (x y : Row) → Good x ≡ Good y → x ≡ y
   same x y e = cc
@@ -144,7 +144,7 @@ each_of-gives (function ∷ functions) column values e =
       each = at;
     } where
       at : (place : ℕ) (function : AggFn) → slice_get (f ∷ fs) place ≡ Some function → aggregated function (col place) ≡ Good (value_at (v ∷ vs) place)
-      at zero function h = ap (λ k. aggregated k (col 0)) (sym (same_some f function h)) ∙ here
+      at zero function h = ap (λ k. aggregated k (col 0)) (sym (same_Some f function h)) ∙ here
       at (suc place) function h = g.each place function h
 
 pub gives-each_of : (functions : List AggFn) (column : ℕ → List Value) (values : Row) → Gives functions column values → each_of functions column ≡ Good values

@@ -1,14 +1,12 @@
 -- What stands for a dependent join that keeps left rows: the join over a spine, and the dependent join itself.
 use Rattle.std.proofs.Common.{◌≡◌, true, refl, sym, subst}
 use Rattle.std.specs.Prelude.{IsTrue}
+use Rattle.bag_algebra.proofs.Outcomes.{same_rows-itself}
 use Rattle.bag_algebra.proofs.TablesRead.{reads_among-itself}
-use Rattle.bag_algebra.specs.Bags.{Bag}
 use Rattle.bag_algebra.specs.built.Openings.{Apply-is}
 use Rattle.bag_algebra.specs.built.Patterns.{ApplyOf}
 use Rattle.bag_algebra.specs.Kinds.{width_of}
 use Rattle.bag_algebra.specs.Meaning.{meaning}
-use Rattle.bag_algebra.specs.Outcome.{Outcome, Good, Bad}
-use Rattle.bag_algebra.specs.Rewriting.{SameRows}
 use Rattle.bag_algebra.specs.declared.query.JoinKind.{JoinKind}
 use Rattle.bag_algebra.specs.declared.query.JoinKind.TheVariants.{Left}
 use Rattle.bag_algebra.specs.declared.query.Query.{Query}
@@ -17,10 +15,6 @@ use Rattle.query_laws.proofs.SpineForms.{kinds-spine_join, plain-spine_join, tab
 use Rattle.query_laws.proofs.SpineJoins.{rows-spine_join}
 use Rattle.query_laws.specs.spines.Spines.{IsBeside, IsJoined, IsSpine, all_behind, dependent, ordinary, spine_join}
 use Rattle.query_laws.specs.declared.spines.spine.Spine.{Spine}
-
-same_rows-itself : (o : Outcome Bag) → SameRows o o
-same_rows-itself (Good us) = record { counts = λ t. refl }
-same_rows-itself (Bad faults) = refl
 
 module _ (rows right : Query) where
   left-spine : (spine : Spine) → IsSpine (width_of rows) right spine → all_behind (width_of rows) spine.items ≡ true → IsBeside rows right (spine_join Left rows spine)

@@ -52,7 +52,7 @@ caused-mapped : {X Y : Type 0} (f : X → Y) (o : Outcome X) → Caused o → Ca
 caused-mapped f (Good x) c = tt
 caused-mapped f (Bad faults) c = c
 
-caused-both : {X Y Z : Type 0} (f : X → Y → Z) (a : Outcome X) (b : Outcome Y) → Caused a → Caused b → Caused (both f a b)
+pub caused-both : {X Y Z : Type 0} (f : X → Y → Z) (a : Outcome X) (b : Outcome Y) → Caused a → Caused b → Caused (both f a b)
 caused-both f (Good x) (Good y) c d = tt
 caused-both f (Good x) (Bad h) c d = d
 caused-both f (Bad g) (Good y) c d = c
@@ -69,7 +69,7 @@ caused-gather : {X Y : Type 0} (f : X → Outcome (List Y)) (xs : List X) → ((
 caused-gather f [] c = tt
 caused-gather f (x ∷ xs) c = caused-both (λ y ys. y ++ ys) (f x) (gather f xs) (c x) (caused-gather f xs c)
 
-caused-each : {X Y : Type 0} (f : X → Outcome Y) (xs : List X) → ((x : X) → Caused (f x)) → Caused (each f xs)
+pub caused-each : {X Y : Type 0} (f : X → Outcome Y) (xs : List X) → ((x : X) → Caused (f x)) → Caused (each f xs)
 caused-each f [] c = tt
 caused-each f (x ∷ xs) c = caused-both (λ y ys. y ∷ ys) (f x) (each f xs) (c x) (caused-each f xs c)
 

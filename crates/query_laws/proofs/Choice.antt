@@ -5,8 +5,8 @@ use Rattle.null_logic.specs.declared.run_fault.RunFault.{RunFault}
 use Rattle.null_logic.specs.declared.run_fault.RunFault.TheVariants.{DivideByZero, OutOfRange, SeveralRows}
 use Rattle.perm_values.specs.declared.key.Key.{Key}
 use Rattle.perm_values.specs.declared.value.Value.{Value}
-use Rattle.bag_algebra.proofs.BagLaws.{same_bag-refl}
 use Rattle.bag_algebra.proofs.Members.{IsIn}
+use Rattle.bag_algebra.proofs.Outcomes.{same_rows-itself}
 use Rattle.bag_algebra.specs.Bags.{Row, Bag, SameBag, count, once}
 use Rattle.bag_algebra.specs.Means.{Witness}
 use Rattle.bag_algebra.specs.Outcome.{Outcome, Good, Bad, Faults, has}
@@ -22,7 +22,7 @@ use Rattle.query_laws.proofs.Outcomes.{in_bag-in, in-in_bag}
 
 -- ---- one answer
 
-same_flag : (a b : Bool) → (a ≡ true → b ≡ true) → (b ≡ true → a ≡ true) → a ≡ b
+pub same_flag : (a b : Bool) → (a ≡ true → b ≡ true) → (b ≡ true → a ≡ true) → a ≡ b
 same_flag = both_ways
 
 same_faults : (f g : Faults) → ((fault : RunFault) → has f fault ≡ true → has g fault ≡ true) → ((fault : RunFault) → has g fault ≡ true → has f fault ≡ true) → f ≡ g
@@ -32,12 +32,8 @@ same_faults f g there back = λ i. record {
   several = same_flag f.several g.several (there SeveralRows) (back SeveralRows) i;
 }
 
-same-refl : (o : Outcome Bag) → SameRows o o
-same-refl (Good us) = same_bag-refl us
-same-refl (Bad faults) = refl
-
 same-of_equal : (a b o : Outcome Bag) → a ≡ o → b ≡ o → SameRows a b
-same-of_equal a b o e k = subst (λ c. SameRows a c) (sym k) (subst (λ c. SameRows c o) (sym e) (same-refl o))
+same-of_equal a b o e k = subst (λ c. SameRows a c) (sym k) (subst (λ c. SameRows c o) (sym e) (same_rows-itself o))
 
 -- answers that are good under one condition, meet one set of faults and have one bag where they are good
 agree : (G : Type 0) (M : RunFault → Type 0) (a b : Outcome Bag) → (IsGood a ↔ G) → (IsGood b ↔ G) →

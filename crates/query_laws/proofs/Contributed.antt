@@ -27,6 +27,7 @@ use Rattle.query_laws.proofs.PairedLists.{OneOfEach, in-beside, from-beside}
 use Rattle.query_laws.specs.ListsOfNodes.{Followed}
 use Rattle.query_laws.specs.SublinkLists.{IsChosen, Contributes, by_row, by_no_row, EachContributes, no_sublink, one_more}
 use Rattle.bag_algebra.proofs.Outcomes.{both-is, both_then-parts}
+use Rattle.bag_algebra.proofs.TruthValues.{holds-truth}
 
 -- ---- truths and the values that stand for them
 
@@ -43,18 +44,13 @@ is_false-is Unknown e = absurd (true≢false (sym e))
 abbrev denied_of : Value → Bool
 denied_of v = is_true (truth_not (truth_of v))
 
-holds-value_of : (t : Truth) → holds_of (value_of t) ≡ is_true t
-holds-value_of True = refl
-holds-value_of False = refl
-holds-value_of Unknown = refl
-
 denied-value_of : (t : Truth) → denied_of (value_of t) ≡ is_true (truth_not t)
 denied-value_of True = refl
 denied-value_of False = refl
 denied-value_of Unknown = refl
 
 told_true : (t : Truth) → Good (value_of t) ≡ Good (Boolean true) → is_true t ≡ true
-told_true t e = sym (holds-value_of t) ∙ ap (λ o. holds_of (good_value o)) e
+told_true t e = sym (holds-truth t) ∙ ap (λ o. holds_of (good_value o)) e
 
 told_false : (t : Truth) → Good (value_of t) ≡ Good (Boolean false) → is_true (truth_not t) ≡ true
 told_false t e = sym (denied-value_of t) ∙ ap (λ o. denied_of (good_value o)) e

@@ -7,9 +7,9 @@ use Rattle.null_logic.specs.declared.run_fault.RunFault.{RunFault}
 use Rattle.null_logic.specs.declared.run_fault.RunFault.TheVariants.{OutOfRange}
 use Rattle.perm_values.specs.Rows.{same_row, value_at, picked}
 use Rattle.perm_values.specs.declared.value.Value.{Value}
-use Rattle.bag_algebra.proofs.BagLaws.{same_row-is, same_row-refl, count-filter, count-once, member-once}
+use Rattle.bag_algebra.proofs.BagLaws.{same_row-is, same_row-refl, count-filter, member-once, keys-once}
 use Rattle.bag_algebra.proofs.Members.{IsIn, in-map, from-map, in-member, member-in}
-use Rattle.bag_algebra.specs.Bags.{Row, Bag, count, member, once}
+use Rattle.bag_algebra.specs.Bags.{Row, Bag, count, once}
 use Rattle.bag_algebra.specs.Means.{gives, good_row, class_keys, class_of, class_row, aggregates_of, grouped}
 use Rattle.bag_algebra.specs.Outcome.{Outcome, Good, Bad, and_then, mapped, each}
 use Rattle.bag_algebra.specs.declared.query.AggFn.{AggFn}
@@ -17,12 +17,11 @@ use Rattle.query_laws.specs.Faults.{IsGood, Meets, OverRows}
 use Rattle.query_laws.specs.Holding.{InBag, HoldsOnce}
 use Rattle.query_laws.specs.Nodes.{IsKey, class_values, IsClassRow, SumOverflows, IsGrouped}
 use Rattle.query_laws.proofs.Aggregates.{each_of, aggregates_of-is, each_of-good, each_of-meets, meets-each_of, each_of-gives, gives-each_of, good-meets}
-use Rattle.query_laws.proofs.Items.{each-in, from-each, each-long}
-use Rattle.query_laws.proofs.Once.{at_most_one}
+use Rattle.query_laws.proofs.Items.{each-in, from-each}
 use Rattle.query_laws.proofs.Outcomes.{Over, over-each, over_rows, in_bag-in, in-in_bag, mapped-good, mapped-meets, meets-mapped, and_then-passes}
 use Rattle.query_laws.proofs.Projected.{given}
 use Rattle.query_laws.proofs.Sums.{count-sum, one_if}
-use Rattle.bag_algebra.proofs.Outcomes.{bad-not_good, mapped-is}
+use Rattle.bag_algebra.proofs.Outcomes.{bad-not_good, mapped-is, each-long}
 
 -- ---- keys
 
@@ -53,13 +52,6 @@ key-long : (groups : List ℕ) (us : Bag) (key : Row) → IsKey groups us key �
 key-long groups us key (inl h) = ap length h.1 ∙ sym (ap length h.0)
 key-long groups us key (inr h) = ap length (sym h.1.2) ∙ length-map groups (value_at h.1.0)
 
--- each key stands once
-keys-once : (groups : List ℕ) (us : Bag) (key : Row) → count key (class_keys groups us) ≤ 1
-keys-once [] us key = at_most_one (same_row [] key)
-keys-once (group ∷ groups) us key =
-    let keys = map (picked (group ∷ groups)) us in
-    subst (λ n. n ≤ 1) (sym (count-once key keys)) (at_most_one (member key keys))
-
 -- a row is in the class of its own group values alone, with its count
 pub count-class_of : (groups : List ℕ) (us : Bag) (key u : Row) → count u (class_of groups key us) ≡ cond (same_row (picked groups u) key) (count u us) 0
 count-class_of groups us key u = count-filter u (λ w. same_row (picked groups w) key) us
@@ -86,7 +78,7 @@ given-is t (Bad faults) e = absurd (true≢false (sym e))
 
 -- ---- the row of a class
 
-map-map : {X Y Z : Type 0} (f : Y → Z) (g : X → Y) (xs : List X) → map f (map g xs) ≡ map (λ x. f (g x)) xs
+pub map-map : {X Y Z : Type 0} (f : Y → Z) (g : X → Y) (xs : List X) → map f (map g xs) ≡ map (λ x. f (g x)) xs
 map-map f g [] = refl
 map-map f g (x ∷ xs) = ap (λ l. f (g x) ∷ l) (map-map f g xs)
 

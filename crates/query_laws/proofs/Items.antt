@@ -1,11 +1,10 @@
 -- What is in a list, and what evaluating each item of a list gives.
-use Rattle.std.proofs.Common.{◌≡◌, inl, inr, ℕ, zero, suc, Some, None, List, [], ◌∷◌, length, refl, sym, ap, subst, ◌∙◌}
+use Rattle.std.proofs.Common.{◌≡◌, inl, inr, ℕ, zero, suc, Some, List, [], ◌∷◌, refl, sym, ap, subst, ◌∙◌}
+use Rattle.std.proofs.lemmas.Option.{none-some, same_Some}
 use Rattle.std.specs.List.{slice_get}
 use Rattle.bag_algebra.proofs.Members.{IsIn}
 use Rattle.bag_algebra.specs.Outcome.{Outcome, Good, each}
 use Rattle.bag_algebra.proofs.Outcomes.{same_good, both-is}
-
--- ---- what a list contains
 
 -- ---- good evaluations of lists
 
@@ -30,24 +29,12 @@ from-each f (z ∷ xs) ys y e h =
     first f z xs y v vs here (inl same) after = (z, inl refl, here ∙ ap Good same)
     first f z xs y v vs here (inr there) after = let found = after there in (found.0, inr found.1, found.2)
 
-pub each-long : {X Y : Type 0} (f : X → Outcome Y) (xs : List X) (ys : List Y) → each f xs ≡ Good ys → length ys ≡ length xs
-each-long f [] ys e = ap length (sym (same_good [] ys e))
-each-long f (x ∷ xs) ys e =
-    let parts = both-is (λ v vs. v ∷ vs) (f x) (each f xs) ys e in
-    ap length (sym parts.4) ∙ ap suc (each-long f xs parts.1 parts.3)
-
-pub none_some : {X : Type 0} (x : X) → None ≡ Some x → ⊥
-none_some x e = cc
-
-pub same_some : {X : Type 0} (x y : X) → Some x ≡ Some y → x ≡ y
-same_some x y e = cc
-
 pub each-at : {X Y : Type 0} (f : X → Outcome Y) (xs : List X) (ys : List Y) → each f xs ≡ Good ys → (place : ℕ) (x : X) → slice_get xs place ≡ Some x →
     (y : Y) × (slice_get ys place ≡ Some y) × (f x ≡ Good y)
-each-at f [] ys e place x h = absurd (none_some x h)
+each-at f [] ys e place x h = absurd (none-some x h)
 each-at f (z ∷ xs) ys e zero x h =
     let parts = both-is (λ v vs. v ∷ vs) (f z) (each f xs) ys e in
-    (parts.0, ap (λ l. slice_get l 0) (sym parts.4), ap f (sym (same_some z x h)) ∙ parts.2)
+    (parts.0, ap (λ l. slice_get l 0) (sym parts.4), ap f (sym (same_Some z x h)) ∙ parts.2)
 each-at f (z ∷ xs) ys e (suc place) x h =
     let parts = both-is (λ v vs. v ∷ vs) (f z) (each f xs) ys e in
     let found = each-at f xs parts.1 parts.3 place x h in

@@ -16,7 +16,7 @@ use Rattle.query_laws.specs.Nodes.{IsJoined, makes, pairs_count, is_unmatched_le
 use Rattle.query_laws.proofs.Filtered.{kept-rows}
 use Rattle.query_laws.proofs.Once.{in_bag-behind, in_bag-front}
 use Rattle.query_laws.proofs.Outcomes.{over-gather, over-part, over-mapped, over_pairs, gather-is, both_then-unites}
-use Rattle.query_laws.proofs.Sums.{one_if, sum_by-same, sum_by-filter, sum_by-scaled, count-flat_map, count-map, sum_by-listed, sum_by-passing}
+use Rattle.query_laws.proofs.Sums.{one_if, sum_by-same, sum_by-filter, sum_by-scaled, count-flat_map, count-map, sum_by-listed, sum_by-passing, unit-cond}
 use Rattle.bag_algebra.proofs.Truths.{and_associates}
 use Rattle.bag_algebra.proofs.Outcomes.{same_good, both-is, mapped-is}
 
@@ -166,10 +166,6 @@ times-cond : (m : Bool) (n k : ℕ) → n * (k * one_if m) ≡ cond m (n * k) 0
 times-cond true n k = ap (λ x. n * x) (mul-one k)
 times-cond false n k = ap (λ x. n * x) (mul-zero k) ∙ mul-zero n
 
-once-cond : (m : Bool) (n : ℕ) → n * one_if m ≡ cond m n 0
-once-cond true n = mul-one n
-once-cond false n = mul-zero n
-
 module _ (condition : Row → Outcome Value) (u v : Row) where
   -- the partners of a row that is u
   partners-own : (w : Row) (vs : Bag) → same_row w u ≡ true → partners condition (u ++ v) vs w ≡ count v vs * one_if (is_met (condition (u ++ v)))
@@ -209,7 +205,7 @@ module _ (condition : Row → Outcome Value) (u v : Row) where
       ∙ ap (λ x. one_if (same_row (nulls width) v && test x)) (same_row-is w u s))
       (λ w h s. ap (λ b. one_if (b && test w)) (same_parts w u (nulls width) v (wide w h))
       ∙ first_false (same_row w u) (same_row (nulls width) v) (test w) s)
-      ∙ once-cond (same_row (nulls width) v && test u) (count u us)
+      ∙ unit-cond (same_row (nulls width) v && test u) (count u us)
 
   right-own : (width : ℕ) (test : Row → Bool) (vs : Bag) → length (nulls width) ≡ length u →
       sum_by (λ x. one_if (same_row (nulls width ++ x) (u ++ v) && test x)) vs ≡ cond (same_row (nulls width) u && test v) (count v vs) 0
@@ -220,14 +216,14 @@ module _ (condition : Row → Outcome Value) (u v : Row) where
       ∙ ap (λ y. one_if (same_row (nulls width) u && test y)) (same_row-is x v s))
       (λ x h s. ap (λ b. one_if (b && test x)) (same_parts (nulls width) u x v long)
       ∙ second_false (same_row (nulls width) u) (same_row x v) (test x) s)
-      ∙ once-cond (same_row (nulls width) u && test v) (count v vs)
+      ∙ unit-cond (same_row (nulls width) u && test v) (count v vs)
     where
       both_true : (a b m : Bool) → b ≡ true → one_if ((a && b) && m) ≡ one_if (a && m)
       both_true true true m e = refl
       both_true true false m e = absurd (true≢false (sym e))
       both_true false b m e = refl
 
-length-nulls : (n : ℕ) → length (nulls n) ≡ n
+pub length-nulls : (n : ℕ) → length (nulls n) ≡ n
 length-nulls zero = refl
 length-nulls (suc n) = ap suc (length-nulls n)
 

@@ -1,10 +1,11 @@
 -- Over closed queries that have the columns of its tables a query is well formed where it was.
 use Rattle.std.proofs.Common.{◌≡◌, ℕ, List, [], ◌∷◌, ◌++◌, length, sym, ◌∙◌, subst, subst₂}
+use Rattle.perm_values.specs.Rows.{KeysWithin, PlacesWithin}
 use Rattle.perm_values.specs.declared.kind.Kind.{Kind}
 use Rattle.perm_values.specs.declared.kind.Kind.TheVariants.{Boolean}
 use Rattle.bag_algebra.specs.Kinds.{kinds_of}
 use Rattle.bag_algebra.specs.TablesRead.{EachTable, EachSubTable}
-use Rattle.bag_algebra.specs.WellFormed.{WellFormed, SubsForm, HasKind, ItemsForm, PlacesIn, KeysIn, AggregatesForm, sub_form}
+use Rattle.bag_algebra.specs.WellFormed.{WellFormed, SubsForm, HasKind, ItemsForm, AggregatesForm, sub_form}
 use Rattle.bag_algebra.specs.built.Patterns.{BaseOf, FilterOf, ProjectOf, JoinOf, ApplyOf, UnionOf, IntersectOf, ExceptOf, DistinctOf, AggregateOf, LimitOf, ProvOf}
 use Rattle.bag_algebra.specs.declared.query.Query.{Query, Row_of-Sublink, more_of-Sublink, end_of-Sublink}
 use Rattle.bag_algebra.specs.declared.query.Query.TheVariants.{Table, Single}
@@ -31,7 +32,7 @@ module _ (at : ℕ → List Kind → Query) where
     formed-over Single outer h c f = f
     formed-over (BaseOf input places label) outer h c f = record {
       input = formed-over input outer h c f.input;
-      in_range = subst (λ kinds. PlacesIn (length kinds) places) (sym (kinds-over at input h)) f.in_range;
+      in_range = subst (λ kinds. PlacesWithin (length kinds) places) (sym (kinds-over at input h)) f.in_range;
       named = f.named;
     }
     formed-over (FilterOf input condition _ subs) outer h c f =
@@ -80,12 +81,12 @@ module _ (at : ℕ → List Kind → Query) where
     formed-over (AggregateOf input groups aggregates) outer h c f =
         let e = sym (kinds-over at input h) in record {
           input = formed-over input outer h c f.input;
-          groups = subst (λ kinds. PlacesIn (length kinds) groups) e f.groups;
+          groups = subst (λ kinds. PlacesWithin (length kinds) groups) e f.groups;
           aggregates = subst (λ kinds. AggregatesForm (kinds ∷ outer) aggregates) e f.aggregates;
         }
     formed-over (LimitOf input keys count) outer h c f = record {
       input = formed-over input outer h c f.input;
-      keys = subst (λ kinds. KeysIn (length kinds) keys) (sym (kinds-over at input h)) f.keys;
+      keys = subst (λ kinds. KeysWithin (length kinds) keys) (sym (kinds-over at input h)) f.keys;
       bound = f.bound;
     }
     formed-over (ProvOf input) outer h c f = formed-over input outer h c f

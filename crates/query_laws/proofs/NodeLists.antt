@@ -23,6 +23,7 @@ use Rattle.bag_algebra.specs.declared.query.Sublink.{Sublink}
 use Rattle.contribution.proofs.GoodRows.{from-and_then, from-gather, from-kept}
 use Rattle.contribution.proofs.ListedRows.{none-in}
 use Rattle.bag_algebra.proofs.MembersByIndex.{in-from_contains, contains-from_in}
+use Rattle.bag_algebra.proofs.Outcomes.{first-of_good}
 use Rattle.contribution.proofs.NoRowLost.{gives-good}
 use Rattle.query_laws.proofs.AnswerRows.{answer-from, answer-in, listed-where}
 use Rattle.query_laws.proofs.Contributed.{AllGood, all_good, followed-from, in-followed}
@@ -31,10 +32,6 @@ use Rattle.query_laws.specs.ListsOfNodes.{Followed, ProjectList, UnionList, from
 use Rattle.query_laws.specs.SublinkLists.{InAnswer}
 
 -- ---- where something good was made, what it was made of is good
-
-good-before : {X Y : Type 0} (o : Outcome X) (next : X → Outcome Y) (y : Y) → and_then o next ≡ Good y → (x : X) × (o ≡ Good x)
-good-before (Good x) next y e = (x, refl)
-good-before (Bad faults) next y e = absurd (cc e)
 
 good-where_met : (o : Outcome Value) → is_met o ≡ true → (v : Value) × (o ≡ Good v)
 good-where_met (Good v) e = (v, refl)
@@ -50,12 +47,12 @@ module _ (db : Database) (env : List Row) (subs : List Sublink) (u : Row) where
   good-met condition met =
       let s = subs_denote subs db env in
       let value = good-where_met (condition_on condition env s u) met in
-      let answers = good-before (s.answers u) _ value.0 value.1 in
+      let answers = first-of_good (s.answers u) _ value.0 value.1 in
       all_good db env u subs answers.0 answers.1
 
   good-made : (items : List Item) (t : Row) → items_on items env (subs_denote subs db env) u ≡ Good t → AllGood db env u subs
   good-made items t made =
-      let answers = good-before ((subs_denote subs db env).answers u) _ t made in
+      let answers = first-of_good ((subs_denote subs db env).answers u) _ t made in
       all_good db env u subs answers.0 answers.1
 
 module _ (db : Database) (env : List Row) (t : Row) (w : Witness) where

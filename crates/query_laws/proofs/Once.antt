@@ -1,7 +1,7 @@
 -- Bags that hold each of some rows once.
 use Rattle.std.proofs.Common.{◌≡◌, ◌↔◌, ℕ, zero, suc, ◌<◌, ◌≤◌, Bool, true, false, cond, Decides, sym, subst, arith, true≢false, refl, ◌∷◌}
 use Rattle.perm_values.specs.Rows.{same_row}
-use Rattle.bag_algebra.proofs.BagLaws.{same_row-refl, count-once, member_decides}
+use Rattle.bag_algebra.proofs.BagLaws.{same_row-refl, count-once, member_decides, at_most_one}
 use Rattle.bag_algebra.specs.Bags.{Row, Bag, SameBag, count, member, once}
 use Rattle.query_laws.specs.Holding.{InBag, HoldsOnce, Lists}
 
@@ -14,10 +14,6 @@ in_bag-behind w u us h = by (same_row u w) where
 
 pub in_bag-front : (u : Row) (us : Bag) → InBag u (u ∷ us)
 in_bag-front u us = rw (same_row-refl u) (omega arith)
-
-pub at_most_one : (b : Bool) → cond b 1 0 ≤ 1
-at_most_one true = omega arith
-at_most_one false = omega arith
 
 counted_if : {P : Type 0} (b : Bool) → Decides b P → (0 < cond b 1 0 → P) × (P → 0 < cond b 1 0)
 counted_if true d = (λ h. d.0 refl, λ p. omega arith)

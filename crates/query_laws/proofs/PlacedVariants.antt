@@ -1,13 +1,13 @@
 -- Each variant of an expression is placed where its parts are.
-use Rattle.std.proofs.Common.{◌≡◌, ℕ, zero, suc, ◌≤◌, ◌-◌, ◌<◌, Bool, true, not, ◌&&◌, List, [], ◌∷◌, length, Option, Some, None, refl, sym, ap, ◌∙◌, subst, arith, get_or}
+use Rattle.std.proofs.Common.{◌≡◌, ℕ, zero, suc, ◌≤◌, ◌-◌, ◌<◌, Bool, true, not, ◌&&◌, List, [], ◌∷◌, length, Some, refl, sym, ap, ◌∙◌, subst, arith, get_or}
+use Rattle.std.proofs.lemmas.Option.{none-some}
 use Rattle.std.specs.Prelude.{slice_get}
 use mathlib.Core.Bool.{beq}
-use Rattle.null_logic.specs.Comparison.{is_null}
 use Rattle.null_logic.specs.declared.arith.Arith.{Arith}
 use Rattle.null_logic.specs.declared.operator.Operator.{Operator}
 use Rattle.null_logic.specs.declared.truth.Truth.{Truth}
 use Rattle.perm_values.specs.Rows.{value_at}
-use Rattle.perm_values.specs.Values.{same_value}
+use Rattle.perm_values.specs.Values.{same_value, is_null}
 use Rattle.perm_values.specs.declared.kind.Kind.{Kind}
 use Rattle.perm_values.specs.declared.kind.Kind.TheVariants.{Integer, Text, Boolean}
 use Rattle.perm_values.specs.declared.value.Value.{Value}
@@ -19,6 +19,7 @@ use Rattle.bag_algebra.specs.Bags.{Row}
 use Rattle.bag_algebra.specs.built.Openings.{row_of_parts, row_of_steps, row_of_arms, shape_of_steps, shape_of_arms, Chain-is, Case-is, IsNull-is, IsTruth-is, Same-is}
 use Rattle.bag_algebra.specs.Expressions.{value, values, step_values, arm_value, Step, operate, chain, has_truth, chosen_arm}
 use Rattle.bag_algebra.specs.FaultFree.{may_fault, faultless, items_faultless, parts_faultless, arms_faultless}
+use Rattle.bag_algebra.specs.Kinds.{item_kinds}
 use Rattle.bag_algebra.specs.Meaning.{items_on}
 use Rattle.bag_algebra.specs.Means.{no_subs}
 use Rattle.bag_algebra.specs.Outcome.{Outcome, Good, and_then, mapped, both, both_then}
@@ -30,7 +31,6 @@ use Rattle.bag_algebra.specs.declared.expr.Expr.{Expr}
 use Rattle.bag_algebra.specs.declared.expr.Expr.TheBlock.{shape-the_row-Expr-0, hidden-the_row-Expr-0, shape-the_row-ChainStep-2, hidden-the_row-ChainStep-2, shape-the_row-Arm-3, hidden-the_row-Arm-3}
 use Rattle.bag_algebra.specs.declared.expr.Expr.TheVariants.{Col, Lit, Op, Chain, Case, Sub, IsNull, IsTruth, Same}
 use Rattle.bag_algebra.specs.declared.expr.Item.{Item}
-use Rattle.contribution.specs.ItemKinds.{item_kinds}
 use Rattle.query_laws.specs.spines.PlacedColumns.{IsPlaced, PartsPlaced, StepsPlaced, ArmsPlaced}
 
 -- ---- columns
@@ -53,12 +53,8 @@ value-there (first ∷ items) x env t (suc place) item g within =
     let parts = both-is (λ v vs. v ∷ vs) (value first.expr x env []) (items_on items env no_subs x) t g in
     value-there items x env parts.1 place item parts.3 (omega (arith, within)) ∙ ap (λ row. Good (value_at row (suc place))) parts.4
 
-abbrev given : Option Kind → Type 0
-given None = Unit
-given (Some kind) = ⊥
-
-kinds-beyond : (items : List Item) (place : ℕ) (kind : Kind) → length items ≤ place → slice_get (item_kinds items) place ≡ Some kind → ⊥
-kinds-beyond [] place kind far e = subst given e tt
+pub kinds-beyond : (items : List Item) (place : ℕ) (kind : Kind) → length items ≤ place → slice_get (item_kinds items) place ≡ Some kind → ⊥
+kinds-beyond [] place kind far e = none-some kind e
 kinds-beyond (item ∷ items) zero kind far e = absurd (omega (arith, far))
 kinds-beyond (item ∷ items) (suc place) kind far e = kinds-beyond items place kind (omega (arith, far)) e
 

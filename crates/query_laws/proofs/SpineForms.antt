@@ -10,7 +10,7 @@ use Rattle.bag_algebra.specs.built.Forms.{number_of_parts-built}
 use Rattle.bag_algebra.specs.built.Patterns.{ApplyOf}
 use Rattle.bag_algebra.specs.Closed.{is_closed}
 use Rattle.bag_algebra.specs.FaultFree.{faultless, items_faultless, fault_free}
-use Rattle.bag_algebra.specs.Kinds.{kinds_of, width_of}
+use Rattle.bag_algebra.specs.Kinds.{kinds_of, width_of, item_kinds}
 use Rattle.bag_algebra.specs.Rewriting.{is_plain}
 use Rattle.bag_algebra.specs.TablesRead.{EachTable, ReadsAmong, tables_read}
 use Rattle.bag_algebra.specs.WellFormed.{HasKind, ItemsForm, WellFormed}
@@ -22,11 +22,11 @@ use Rattle.contribution.proofs.ColumnQueries.{all-nothing, all-first, all-rest}
 use Rattle.contribution.proofs.LongerKinds.{NamesAlso, names-own, names-more, has_kind-longer, well_formed-longer, longer-names}
 use Rattle.contribution.proofs.Padding.{items-append, kinds-append}
 use Rattle.contribution.proofs.PartForms.{no_parts-have, more_parts-have}
-use Rattle.contribution.specs.ItemKinds.{item_kinds}
+use Rattle.contribution.specs.Conjunctions.{condition_or_true}
 use Rattle.contribution.specs.Longer.{more_lists}
 use Rattle.query_laws.proofs.SpineItems.{behind-faultless, behind-kinds, behind-formed}
 use Rattle.query_laws.specs.spines.PlacedColumns.{ItemsPlaced}
-use Rattle.query_laws.specs.spines.Spines.{IsSpine, closed, filtered, projected, items_behind, tests_with, test_of, spine_join}
+use Rattle.query_laws.specs.spines.Spines.{IsSpine, closed, filtered, projected, items_behind, tests_with, spine_join}
 use Rattle.query_laws.specs.declared.spines.spine.Spine.{Spine}
 
 -- ---- placed items
@@ -114,7 +114,7 @@ tests-formed scopes (Some test) other f g = record {
   gives = refl;
 }
 
-pub test_of-formed : (scopes : List (List Kind)) (test : Option Expr) → TestFormed scopes test → HasKind scopes [] (test_of test) Boolean
+pub test_of-formed : (scopes : List (List Kind)) (test : Option Expr) → TestFormed scopes test → HasKind scopes [] (condition_or_true test) Boolean
 test_of-formed scopes None f = record { fitting = refl; gives = refl }
 test_of-formed scopes (Some test) f = f
 

@@ -6,17 +6,19 @@ use Rattle.perm_values.specs.declared.kind.Kind.{Kind}
 use Rattle.perm_values.specs.declared.value.Value.{Value}
 use Rattle.perm_values.specs.declared.value.Value.TheVariants.{Null}
 use Rattle.bag_algebra.proofs.NeverBad.{good-value}
+use Rattle.bag_algebra.proofs.Outcomes.{good-is}
 use Rattle.bag_algebra.proofs.Truths.{left-true, right-true}
 use Rattle.bag_algebra.specs.Bags.{Row, nulls}
 use Rattle.bag_algebra.specs.Expressions.{value}
 use Rattle.bag_algebra.specs.FaultFree.{faultless, items_faultless}
+use Rattle.bag_algebra.specs.Kinds.{item_kinds}
 use Rattle.bag_algebra.specs.Meaning.{items_on}
 use Rattle.bag_algebra.specs.Means.{no_subs, good_row}
-use Rattle.bag_algebra.specs.Outcome.{Outcome, Good, Bad, is_good, both}
+use Rattle.bag_algebra.specs.Outcome.{Outcome, Good, Bad, both}
 use Rattle.bag_algebra.specs.WellFormed.{HasKind, ItemsForm}
 use Rattle.bag_algebra.specs.declared.expr.Item.{Item}
 use Rattle.contribution.proofs.ColumnQueries.{all-nothing, all-first}
-use Rattle.contribution.specs.ItemKinds.{item_kinds, column_of}
+use Rattle.contribution.specs.ItemKinds.{column_of}
 use Rattle.query_laws.specs.spines.Spines.{items_behind}
 
 -- ---- items that may not fault
@@ -27,10 +29,6 @@ row_by items env x = good_row (items_on items env no_subs x)
 
 pub is-good_row : (o : Outcome Row) (t : Row) → o ≡ Good t → o ≡ Good (good_row o)
 is-good_row o t e = e ∙ ap (λ p. Good (good_row p)) (sym e)
-
-good-is : {X : Type 0} (o : Outcome X) → is_good o ≡ true → (v : X) × (o ≡ Good v)
-good-is (Good v) h = (v, refl)
-good-is (Bad faults) h = absurd (cc h)
 
 some-row : (items : List Item) (env : List Row) (x : Row) → items_faultless items ≡ true → (t : Row) × (items_on items env no_subs x ≡ Good t)
 some-row [] env x w = ([], refl)
@@ -110,7 +108,7 @@ items_faultless-append (item ∷ items) more w z =
 
 -- ---- NULLs behind a row
 
-nulls-null : (n place : ℕ) → value_at (nulls n) place ≡ Null
+pub nulls-null : (n place : ℕ) → value_at (nulls n) place ≡ Null
 nulls-null zero place = refl
 nulls-null (suc n) zero = refl
 nulls-null (suc n) (suc place) = nulls-null n place

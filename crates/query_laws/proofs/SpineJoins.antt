@@ -2,6 +2,7 @@
 use Rattle.std.proofs.Common.{◌≡◌, ℕ, zero, suc, ◌+◌, ◌≤◌, inl, inr, Bool, true, false, cond, not, ◌&&◌, ◌||◌, List, [], ◌∷◌, ◌++◌, map, filter, length, append-nil, refl, sym, ap, ◌∙◌, subst, arith, true≢false}
 use Rattle.std.proofs.lemmas.Bool.{leb-true}
 use Rattle.std.proofs.lemmas.Bool.Decides.{nat_tests}
+use Rattle.std.proofs.lemmas.List.{map-append}
 use Rattle.std.specs.Prelude.{nat_eq, nat_le}
 use Rattle.std.specs.List.{flat_map, list_any}
 use Rattle.perm_values.specs.declared.kind.Kind.{Kind}
@@ -18,7 +19,7 @@ use Rattle.bag_algebra.specs.built.Openings.{rows-with_lists}
 use Rattle.bag_algebra.specs.built.Patterns.{OpOf, ChainOf, CaseOf, IsNullOf, IsTruthOf, SameOf, JoinOf, ApplyOf}
 use Rattle.bag_algebra.specs.Expressions.{value}
 use Rattle.bag_algebra.specs.Fits.{bag_fits}
-use Rattle.bag_algebra.specs.Kinds.{kinds_of, width_of}
+use Rattle.bag_algebra.specs.Kinds.{kinds_of, width_of, item_kinds}
 use Rattle.bag_algebra.specs.Meaning.{Database, meaning, condition_on, items_on}
 use Rattle.bag_algebra.specs.Means.{good_row, good_rows, holds_of, is_met, is_some_row, keeps_left, kept, joined_rows, met_pairs, no_subs, under, unmatched_left}
 use Rattle.bag_algebra.specs.Outcome.{Outcome, Good, Bad, Faults, union, and_then, mapped, both, both_then, gather, each, is_good}
@@ -37,14 +38,15 @@ use Rattle.contribution.proofs.RowKinds.{RowFits, row_fits-length}
 use Rattle.contribution.proofs.SetsOfRows.{mapped-gather}
 use Rattle.contribution.proofs.ValueKinds.{fits-begins}
 use Rattle.contribution.proofs.WhereGood.{each-in}
+use Rattle.contribution.specs.Conjunctions.{condition_or_true}
 use Rattle.contribution.specs.Fitting.{Fitting}
-use Rattle.contribution.specs.ItemKinds.{item_kinds}
+use Rattle.query_laws.proofs.Grouped.{map-map}
 use Rattle.query_laws.proofs.Inputs.{across}
 use Rattle.query_laws.proofs.StandingSublinks.{gather-on}
 use Rattle.query_laws.proofs.SpineForms.{spine-faultless, spine-fault_free, spine-kinds, spine-tables, base-formed}
 use Rattle.query_laws.proofs.SpineItems.{row_by, items-good, items_faultless-append, items-both, behind-faultless, behind-give, null-behind}
 use Rattle.query_laws.proofs.SpineRows.{where_holds, spine_row, spine-rows}
-use Rattle.query_laws.specs.spines.Spines.{IsSpine, Suits, all_behind, is_behind, items_behind, test_of, spine_join}
+use Rattle.query_laws.specs.spines.Spines.{IsSpine, Suits, all_behind, is_behind, items_behind, spine_join}
 use Rattle.query_laws.specs.declared.spines.spine.Spine.{Spine}
 
 -- ---- lists
@@ -52,10 +54,6 @@ use Rattle.query_laws.specs.declared.spines.spine.Spine.{Spine}
 map-flat : {X Y : Type 0} (f : X → Y) (xs : List X) → map f xs ≡ flat_map (λ x. f x ∷ []) xs
 map-flat f [] = refl
 map-flat f (x ∷ xs) = ap (λ ys. f x ∷ ys) (map-flat f xs)
-
-map-append : {X Y : Type 0} (f : X → Y) (xs ys : List X) → map f (xs ++ ys) ≡ map f xs ++ map f ys
-map-append f [] ys = refl
-map-append f (x ∷ xs) ys = ap (λ zs. f x ∷ zs) (map-append f xs ys)
 
 -- what is made of each gathered row may be made of each item's own
 map-gather : {X Y Z : Type 0} (f : Y → Z) (g : X → Outcome (List Y)) (xs : List X) → mapped (map f) (gather g xs) ≡ gather (λ x. mapped (map f) (g x)) xs
@@ -197,10 +195,6 @@ good_rows-is : (o : Outcome Bag) → is_good o ≡ true → o ≡ Good (good_row
 good_rows-is (Good bag) w = refl
 good_rows-is (Bad faults) w = absurd (cc w)
 
-map-twice : {X Y Z : Type 0} (f : Y → Z) (g : X → Y) (xs : List X) → map f (map g xs) ≡ map (λ x. f (g x)) xs
-map-twice f g [] = refl
-map-twice f g (x ∷ xs) = ap (λ ys. f (g x) ∷ ys) (map-twice f g xs)
-
 abbrev no_rows : Bag
 no_rows = []
 
@@ -258,7 +252,7 @@ module _ (kind : JoinKind) (left right : Query) (spine : Spine) (outer : List (L
   wide v h = row_fits-length v (kinds_of spine.base) (each-in (RowFits (kinds_of spine.base)) v vs (rows_have-kinds outer spine.base db env vs base-fitting base-good) h).fit
 
   abbrev condition : Row → Outcome Value
-  condition = condition_on (test_of spine.test) env no_subs
+  condition = condition_on (condition_or_true spine.test) env no_subs
 
   abbrev items : List Item
   items = items_behind 0 (kinds_of left) ++ spine.items
@@ -324,7 +318,7 @@ module _ (kind : JoinKind) (left right : Query) (spine : Spine) (outer : List (L
         ∙ gather-on (λ u. mapped (map make) (gather (λ v. kept condition (u ++ v)) vs)) (λ u. mapped (map (λ w. u ++ w)) (found u)) us
         (λ u h. map-gather make (λ v. kept condition (u ++ v)) vs
         ∙ gather-on (λ v. mapped (map make) (kept condition (u ++ v))) (λ v. mapped (map (λ w. u ++ w)) (spine_row spine env (u ++ v))) vs
-        (λ v i. one-met u v h (value (test_of spine.test) (u ++ v) env []))
+        (λ v i. one-met u v h (value (condition_or_true spine.test) (u ++ v) env []))
         ∙ sym (map-gather (λ w. u ++ w) (λ v. spine_row spine env (u ++ v)) vs))
 
     -- a left row that meets none, beside NULLs
@@ -338,12 +332,12 @@ module _ (kind : JoinKind) (left right : Query) (spine : Spine) (outer : List (L
         map make (alone condition 0 (width_of spine.base) us vs k) ≡ flat_map (λ u. kept_alone k (width_of right) u (good_rows (found u))) us
     others-made Inner s rows e d = nothing-each (λ u. is_some_row (good_rows (found u))) us
     others-made Left s rows e d =
-        map-twice make (λ u. u ++ nulls (width_of spine.base)) (unmatched_left condition us vs)
+        map-map make (λ u. u ++ nulls (width_of spine.base)) (unmatched_left condition us vs)
         ∙ alone-rows (λ u. make (u ++ nulls (width_of spine.base))) (λ u. u ++ nulls (width_of right)) (λ u. list_any (λ v. is_met (condition (u ++ v))) vs)
         (λ u. is_some_row (good_rows (found u))) us
         (λ u h. let each_found = good-of (λ u. map (λ w. u ++ w)) found us rows e u h in
         ap (λ o. is_some_row (good_rows o)) each_found.1
-        ∙ found-met (λ v. row_by spine.items env (u ++ v)) (λ v. value (test_of spine.test) (u ++ v) env []) vs each_found.0 each_found.1)
+        ∙ found-met (λ v. row_by spine.items env (u ++ v)) (λ v. value (condition_or_true spine.test) (u ++ v) env []) vs each_found.0 each_found.1)
         (null-made (s refl))
     others-made Right s rows e d = absurd (true≢false (sym d))
     others-made Full s rows e d = absurd (true≢false (sym d))
@@ -374,8 +368,8 @@ module _ (kind : JoinKind) (left right : Query) (spine : Spine) (outer : List (L
   pub rows-spine_join : SameRows (meaning (ApplyOf kind left right) db env) (meaning (spine_join kind left spine) db env)
   rows-spine_join =
       across (rows-with_lists _ _)
-      (meaning-projected (JoinOf kind left spine.base (test_of spine.test) [] end_of-Sublink) items db env
-      ∙ ap (λ o. and_then o (each (items_on items env no_subs))) (meaning-pairs kind left spine.base (test_of spine.test) db env
+      (meaning-projected (JoinOf kind left spine.base (condition_or_true spine.test) [] end_of-Sublink) items db env
+      ∙ ap (λ o. and_then o (each (items_on items env no_subs))) (meaning-pairs kind left spine.base (condition_or_true spine.test) db env
       ∙ ap (λ o. both_then (meaning left db env) o (joined_rows kind condition (width_of left) (width_of spine.base))) base-good))
       (by_left (meaning left db env) refl)
 
@@ -384,7 +378,7 @@ pub bad-spine_join : (kind : JoinKind) (left right : Query) (spine : Spine) (db 
     meaning left db env ≡ Bad faults → meaning (spine_join kind left spine) db env ≡ Bad faults
 bad-spine_join kind left right spine db env faults is e =
     let good = good_rows-is (meaning spine.base db env) (good-query spine.base (spine-fault_free is) db env) in
-    meaning-projected (JoinOf kind left spine.base (test_of spine.test) [] end_of-Sublink) (items_behind 0 (kinds_of left) ++ spine.items) db env
+    meaning-projected (JoinOf kind left spine.base (condition_or_true spine.test) [] end_of-Sublink) (items_behind 0 (kinds_of left) ++ spine.items) db env
     ∙ ap (λ o. and_then o (each (items_on (items_behind 0 (kinds_of left) ++ spine.items) env no_subs)))
-    (meaning-pairs kind left spine.base (test_of spine.test) db env
-    ∙ (λ i. both_then (e i) (good i) (joined_rows kind (condition_on (test_of spine.test) env no_subs) (width_of left) (width_of spine.base))))
+    (meaning-pairs kind left spine.base (condition_or_true spine.test) db env
+    ∙ (λ i. both_then (e i) (good i) (joined_rows kind (condition_on (condition_or_true spine.test) env no_subs) (width_of left) (width_of spine.base))))

@@ -1,15 +1,15 @@
 -- The rows of a spine's query under a row: what the items make of that row and each row of the base on which the test is true.
 use Rattle.std.proofs.Common.{◌≡◌, Bool, true, false, cond, ◌&&◌, List, [], ◌∷◌, ◌++◌, map, length, Option, Some, None, append-nil, refl, sym, ap, ◌∙◌, subst, arith}
 use Rattle.std.specs.List.{flat_map}
-use Rattle.null_logic.specs.Logic.{is_true, truth_and, truth_of, value_of}
+use Rattle.null_logic.specs.Logic.{truth_of}
 use Rattle.null_logic.specs.declared.operator.Operator.TheVariants.{And}
-use Rattle.null_logic.specs.declared.truth.Truth.{Truth}
-use Rattle.null_logic.specs.declared.truth.Truth.TheVariants.{True, False, Unknown}
 use Rattle.perm_values.specs.declared.kind.Kind.{Kind}
 use Rattle.perm_values.specs.declared.kind.Kind.TheVariants.{Boolean}
 use Rattle.perm_values.specs.declared.value.Value.{Value}
 use Rattle.bag_algebra.proofs.Members.{IsIn}
 use Rattle.bag_algebra.proofs.NeverBad.{good-value}
+use Rattle.bag_algebra.proofs.Outcomes.{good_value-is}
+use Rattle.bag_algebra.proofs.TruthValues.{holds-both}
 use Rattle.bag_algebra.specs.Bags.{Row, Bag}
 use Rattle.bag_algebra.specs.built.Openings.{value-Op}
 use Rattle.bag_algebra.specs.Expressions.{value, operate}
@@ -18,7 +18,7 @@ use Rattle.bag_algebra.specs.Fits.{row_begins}
 use Rattle.bag_algebra.specs.Kinds.{kinds_of, width_of}
 use Rattle.bag_algebra.specs.Meaning.{Database, meaning, condition_on, items_on}
 use Rattle.bag_algebra.specs.Means.{holds_of, kept, no_subs, good_row, good_value}
-use Rattle.bag_algebra.specs.Outcome.{Outcome, Good, Bad, and_then, mapped, both, gather, each, is_good}
+use Rattle.bag_algebra.specs.Outcome.{Outcome, Good, Bad, and_then, mapped, both, gather, each}
 use Rattle.bag_algebra.specs.WellFormed.{HasKind, ItemsForm, WellFormed}
 use Rattle.bag_algebra.specs.declared.expr.Expr.{Expr}
 use Rattle.bag_algebra.specs.declared.expr.Expr.TheVariants.{Op}
@@ -30,12 +30,13 @@ use Rattle.contribution.proofs.Growth.{columns-own, value-same}
 use Rattle.contribution.proofs.NodeQueries.{meaning-chosen, meaning-projected}
 use Rattle.contribution.proofs.ColumnQueries.{all-rest}
 use Rattle.contribution.proofs.SetsOfRows.{mapped-gather}
+use Rattle.contribution.specs.Conjunctions.{condition_or_true}
 use Rattle.contribution.specs.SameColumns.{SameColumns}
 use Rattle.query_laws.proofs.StandingSublinks.{gather-on}
 use Rattle.query_laws.proofs.SpineForms.{spine-faultless}
 use Rattle.query_laws.proofs.SpineItems.{row_by, items-good, behind-give}
 use Rattle.query_laws.specs.spines.PlacedColumns.{ItemsPlaced}
-use Rattle.query_laws.specs.spines.Spines.{IsSpine, closed, filtered, projected, MayFollow, items_behind, tests_with, test_of}
+use Rattle.query_laws.specs.spines.Spines.{IsSpine, closed, filtered, projected, MayFollow, items_behind, tests_with}
 use Rattle.query_laws.specs.declared.spines.spine.Spine.{Spine}
 
 -- ---- outcomes that are looked at one after another
@@ -70,18 +71,7 @@ abbrev pub where_holds : Row → Outcome Value → Outcome Bag
 where_holds t o = mapped (λ v. cond (holds_of v) (t ∷ []) []) o
 
 abbrev pub spine_row : Spine → List Row → Row → Outcome Bag
-spine_row spine env x = where_holds (row_by spine.items env x) (value (test_of spine.test) x env [])
-
-both_hold : (a b : Truth) → is_true (truth_of (value_of (truth_and a (truth_and b True)))) ≡ (is_true a && is_true b)
-both_hold True True = refl
-both_hold True False = refl
-both_hold True Unknown = refl
-both_hold False True = refl
-both_hold False False = refl
-both_hold False Unknown = refl
-both_hold Unknown True = refl
-both_hold Unknown False = refl
-both_hold Unknown Unknown = refl
+spine_row spine env x = where_holds (row_by spine.items env x) (value (condition_or_true spine.test) x env [])
 
 kept-twice : (t : Row) (h : Row → Bag) (a b : Bool) → h t ≡ cond b (t ∷ []) [] → flat_map h (cond a (t ∷ []) []) ≡ cond (a && b) (t ∷ []) []
 kept-twice t h true b e = append-nil (h t) ∙ e
@@ -94,12 +84,8 @@ both_tests test other x env t y h e made =
     by_test (value test x env []) ∙ ap (where_holds t) (sym (value-Op x env [] And (test ∷ other ∷ []) ∙ ap (λ o. and_then (both (λ v vs. v ∷ vs) (value test x env []) (both (λ v vs. v ∷ vs) o (Good []))) (operate And)) e)) where
       by_test : (o : Outcome Value) → mapped (flat_map h) (where_holds t o) ≡ where_holds t (and_then (both (λ v vs. v ∷ vs) o (Good (y ∷ []))) (operate And))
       by_test (Good v) =
-          ap Good (kept-twice t h (holds_of v) (holds_of y) made ∙ ap (λ b. cond b (t ∷ []) []) (sym (both_hold (truth_of v) (truth_of y))))
+          ap Good (kept-twice t h (holds_of v) (holds_of y) made ∙ ap (λ b. cond b (t ∷ []) []) (sym (holds-both (truth_of v) (truth_of y))))
       by_test (Bad faults) = refl
-
-good_value-is : (o : Outcome Value) → is_good o ≡ true → o ≡ Good (good_value o)
-good_value-is (Good v) w = refl
-good_value-is (Bad faults) w = absurd (cc w)
 
 -- ---- items placed
 
@@ -127,8 +113,8 @@ module _ (columns : List Kind) (outer : List (List Kind)) (db : Database) (env :
   -- a condition over what the items make
   filtered-rows : (items : List Item) (test : Option Expr) (condition placed : Expr) → MayFollow test condition →
       ((v : Row) → IsIn v vs → value condition (row_by items env (u ++ v)) (u ∷ env) [] ≡ value placed (u ++ v) env []) →
-      and_then (gather (λ v. where_holds (row_by items env (u ++ v)) (value (test_of test) (u ++ v) env [])) vs) (gather (kept (condition_on condition (u ∷ env) no_subs)))
-      ≡ gather (λ v. where_holds (row_by items env (u ++ v)) (value (test_of (Some (tests_with test placed))) (u ++ v) env [])) vs
+      and_then (gather (λ v. where_holds (row_by items env (u ++ v)) (value (condition_or_true test) (u ++ v) env [])) vs) (gather (kept (condition_on condition (u ∷ env) no_subs)))
+      ≡ gather (λ v. where_holds (row_by items env (u ++ v)) (value (condition_or_true (Some (tests_with test placed))) (u ++ v) env [])) vs
   filtered-rows items None condition placed follows same =
       gather-ones (λ v. row_by items env (u ++ v)) (kept (condition_on condition (u ∷ env) no_subs)) vs
       ∙ gather-on (λ v. kept (condition_on condition (u ∷ env) no_subs) (row_by items env (u ++ v))) (λ v. where_holds (row_by items env (u ++ v)) (value placed (u ++ v) env [])) vs
@@ -153,15 +139,15 @@ module _ (columns : List Kind) (outer : List (List Kind)) (db : Database) (env :
   -- items over what the items make
   projected-rows : (own : List Item) (test : Option Expr) (items placed : List Item) → items_faultless items ≡ true →
       ((v : Row) → IsIn v vs → row_by placed env (u ++ v) ≡ row_by items (u ∷ env) (row_by own env (u ++ v))) →
-      and_then (gather (λ v. where_holds (row_by own env (u ++ v)) (value (test_of test) (u ++ v) env [])) vs) (each (items_on items (u ∷ env) no_subs))
-      ≡ gather (λ v. where_holds (row_by placed env (u ++ v)) (value (test_of test) (u ++ v) env [])) vs
+      and_then (gather (λ v. where_holds (row_by own env (u ++ v)) (value (condition_or_true test) (u ++ v) env [])) vs) (each (items_on items (u ∷ env) no_subs))
+      ≡ gather (λ v. where_holds (row_by placed env (u ++ v)) (value (condition_or_true test) (u ++ v) env [])) vs
   projected-rows own test items placed w same =
       (λ i. and_then (gather found vs) (λ bag. sym (each-gather (items_on items (u ∷ env) no_subs) bag) i))
       ∙ after-gather found (λ t. mapped (λ y. y ∷ []) (items_on items (u ∷ env) no_subs t)) make (λ t. ap (mapped (λ y. y ∷ [])) (items-good items (u ∷ env) t w)) vs
-      ∙ gather-on (λ v. mapped (flat_map make) (found v)) (λ v. where_holds (row_by placed env (u ++ v)) (value (test_of test) (u ++ v) env [])) vs
-      (λ v h. by_test v (value (test_of test) (u ++ v) env []) (same v h)) where
+      ∙ gather-on (λ v. mapped (flat_map make) (found v)) (λ v. where_holds (row_by placed env (u ++ v)) (value (condition_or_true test) (u ++ v) env [])) vs
+      (λ v h. by_test v (value (condition_or_true test) (u ++ v) env []) (same v h)) where
         found : Row → Outcome Bag
-        found v = where_holds (row_by own env (u ++ v)) (value (test_of test) (u ++ v) env [])
+        found v = where_holds (row_by own env (u ++ v)) (value (condition_or_true test) (u ++ v) env [])
 
         make : Row → Bag
         make t = row_by items (u ∷ env) t ∷ []

@@ -1,10 +1,12 @@
 -- Nodes over what stands for their inputs, and for the queries of their sublinks, stand for them.
-use Rattle.std.proofs.Common.{◌≡◌, ℕ, true, List, [], ◌∷◌, ◌++◌, length, Contains, refl, sym, ap, ◌∙◌, subst}
+use Rattle.std.proofs.Common.{◌≡◌, ℕ, true, List, [], ◌∷◌, ◌++◌, length, Contains, refl, sym, ap, ◌∙◌}
 use Rattle.std.proofs.lemmas.Bool.{and_from}
 use Rattle.std.specs.Prelude.{Bool, ◌&&◌, IsTrue}
+use Rattle.perm_values.specs.Rows.{KeysWithin, PlacesWithin}
 use Rattle.perm_values.specs.declared.key.Key.{Key}
 use Rattle.perm_values.specs.declared.kind.Kind.{Kind}
 use Rattle.perm_values.specs.declared.kind.Kind.TheVariants.{Boolean}
+use Rattle.perm_values.proofs.Steps.{by}
 use Rattle.bag_algebra.proofs.TablesRead.{reads_among-each, reads_among-itself}
 use Rattle.bag_algebra.specs.Bags.{Row, Bag, member}
 use Rattle.bag_algebra.specs.built.Openings.{Base-is, Filter-is, Project_with-is, Join-is, Apply-is, Union-is, Intersect-is, Except-is, Distinct-is, Aggregate-is, Limit-is}
@@ -15,7 +17,7 @@ use Rattle.bag_algebra.specs.Meaning.{Database, meaning}
 use Rattle.bag_algebra.specs.Outcome.{Good}
 use Rattle.bag_algebra.specs.Rewriting.{is_plain, Stands, SameRows}
 use Rattle.bag_algebra.specs.TablesRead.{tables_read, EachTable}
-use Rattle.bag_algebra.specs.WellFormed.{HasKind, ItemsForm, AggregatesForm, KeysIn, PlacesIn, sub_form, sub_kind, SetForm, WellFormed}
+use Rattle.bag_algebra.specs.WellFormed.{HasKind, ItemsForm, AggregatesForm, sub_form, sub_kind, SetForm, WellFormed}
 use Rattle.bag_algebra.specs.declared.expr.Expr.{Expr}
 use Rattle.bag_algebra.specs.declared.expr.Item.{Item}
 use Rattle.bag_algebra.specs.declared.query.Aggr.{Aggr}
@@ -34,10 +36,6 @@ use Rattle.query_laws.specs.Agreeing.{SubsAgree}
 use Rattle.query_laws.specs.SameExpressions.{SameExpr, SameItems, SameAggregates}
 use Rattle.query_laws.specs.Standing.{SubsStand}
 use Rattle.bag_algebra.specs.built.Scopes.{all_plain, is_plain-Filter, is_plain-Project, is_plain-Join, is_plain-Apply, is_plain-Union, is_plain-Intersect, is_plain-Except, is_plain-Distinct, is_plain-Aggregate, is_plain-Limit}
-
--- what one type has, an equal one has
-by : {A B : Type 0} → A ≡ B → A → B
-by e a = subst (λ (X : Type 0). X) e a
 
 -- ---- sublinks
 
@@ -190,7 +188,7 @@ module _ (q b : Query) (s : Stands q b) where
       let e = sym (s.kinds outer g.input) in
       by (sym (WellFormed-Aggregate outer b groups others)) (record {
         input = s.formed outer g.input;
-        groups = by (λ i. PlacesIn (length (e i)) groups) g.groups;
+        groups = by (λ i. PlacesWithin (length (e i)) groups) g.groups;
         aggregates = aggregates-formed _ aggregates others same (by (λ i. AggregatesForm (e i ∷ outer) aggregates) g.aggregates);
       }))
       (λ P h. by (sym (EachTable-Aggregate P b groups others)) (reads_among-each P b q s.tables (by (EachTable-Aggregate P q groups aggregates) h)))
@@ -207,7 +205,7 @@ module _ (q b : Query) (s : Stands q b) where
       let e = sym (s.kinds outer g.input) in
       by (sym (WellFormed-Limit outer b keys most)) (record {
         input = s.formed outer g.input;
-        keys = by (λ i. KeysIn (length (e i)) keys) g.keys;
+        keys = by (λ i. KeysWithin (length (e i)) keys) g.keys;
         bound = g.bound;
       }))
       (λ P h. by (sym (EachTable-Limit P b keys most)) (reads_among-each P b q s.tables (by (EachTable-Limit P q keys most) h)))

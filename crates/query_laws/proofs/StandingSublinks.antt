@@ -23,6 +23,7 @@ use Rattle.bag_algebra.specs.declared.query.Sublink.{Sublink}
 use Rattle.contribution.proofs.OrderOfQueries.{sub_value-permuted}
 use Rattle.query_laws.proofs.SameExpressions.{optional-same}
 use Rattle.query_laws.specs.Agreeing.{SubAgrees, SubsAgree}
+use Rattle.query_laws.specs.Standing.{SubStands, SubsStand}
 
 answer-same : (kind : SubKind) (x : Outcome Value) (o p : Outcome Bag) → SameRows o p → both_then x o (sub_value kind) ≡ both_then x p (sub_value kind)
 answer-same kind (Good x) (Good us) (Good vs) s = sub_value-permuted kind x (permuted-from_same_bag us vs s)
@@ -145,3 +146,11 @@ join-subs db env kind left right condition subs others agree =
     (answers-same db env (u ++ v) subs others (agree us vs u v of_left of_right (in-member u us here) (in-member v vs there))))
     kind (width_of left) (width_of right))
     ∙ sym (meaning-Join db env kind left right condition others)
+
+-- what stands for sublinks, and for one more, stands for all
+pub stand-more : (subs others : List Sublink) (sub other : Sublink) → SubsStand subs others → SubStands sub other →
+    SubsStand (subs ++ sub ∷ []) (others ++ other ∷ [])
+stand-more [] [] sub other s t = (t, tt)
+stand-more [] (another ∷ others) sub other s t = absurd s
+stand-more (first ∷ subs) [] sub other s t = absurd s
+stand-more (first ∷ subs) (another ∷ others) sub other s t = (s.0, stand-more subs others sub other s.1 t)

@@ -1,25 +1,28 @@
 -- The laws of sublinks and of what is evaluated on a row.
 use Rattle.std.proofs.Common.{◌≡◌, ◌≢◌, inl, inr, ◌<◌, Bool, true, false, cond, ◌||◌, List, [], ◌∷◌, map, length, refl, ap, ◌∙◌, arith}
 use Rattle.std.specs.List.{list_any}
-use Rattle.null_logic.specs.Comparison.{compare_values, is_null}
+use Rattle.null_logic.specs.Comparison.{compare_values}
 use Rattle.null_logic.specs.Logic.{is_true, truth_not, value_of}
 use Rattle.null_logic.specs.declared.compare.Compare.{Compare}
 use Rattle.null_logic.specs.declared.run_fault.RunFault.TheVariants.{SeveralRows}
 use Rattle.null_logic.specs.declared.truth.Truth.{Truth}
 use Rattle.null_logic.specs.declared.truth.Truth.TheVariants.{True, False, Unknown}
+use Rattle.perm_values.specs.Values.{is_null}
 use Rattle.perm_values.specs.declared.value.Value.{Value}
 use Rattle.perm_values.specs.declared.value.Value.TheVariants.{Null, Boolean}
-use Rattle.bag_algebra.proofs.Members.{IsIn, or-first}
+use Rattle.bag_algebra.proofs.Members.{IsIn}
 use Rattle.bag_algebra.specs.Bags.{Row, Bag}
 use Rattle.bag_algebra.specs.Means.{cell, comparisons, sub_value}
 use Rattle.bag_algebra.specs.Outcome.{Outcome, Good, Bad, each, only}
 use Rattle.bag_algebra.specs.declared.query.SubKind.TheVariants.{Exists, Any, All, Scalar}
 use Rattle.query_laws.specs.Evaluated.{IsEvaluated}
 use Rattle.query_laws.specs.Holding.{InBag}
-use Rattle.query_laws.proofs.Items.{each-long, each-at}
+use Rattle.query_laws.proofs.Items.{each-at}
 use Rattle.query_laws.proofs.Outcomes.{over-each, in_bag-in, in-in_bag}
-use Rattle.std.proofs.lemmas.Bool.{or_right, or_from}
+use Rattle.std.proofs.lemmas.Bool.{or_from}
 use Rattle.bag_algebra.proofs.MembersByIndex.{in-from_contains, contains-from_in}
+use Rattle.bag_algebra.proofs.Outcomes.{each-long}
+use Rattle.contribution.proofs.SetsOfNodes.{any_in}
 
 pub each-evaluated : {X Y : Type 0} (f : X → Outcome Y) (xs : List X) → IsEvaluated f xs (each f xs)
 each-evaluated f xs =
@@ -35,11 +38,6 @@ each-evaluated f xs =
     }
 
 -- ---- lists of comparisons
-
-some-in : {X : Type 0} (test : X → Bool) (x : X) (xs : List X) → IsIn x xs → test x ≡ true → list_any test xs ≡ true
-some-in test x [] h e = absurd h
-some-in test x (y ∷ xs) (inl same) e = or-first (test y) (list_any test xs) (ap test same ∙ e)
-some-in test x (y ∷ xs) (inr h) e = or_right (test y) (list_any test xs) (some-in test x xs h e)
 
 none-in : {X : Type 0} (test : X → Bool) (xs : List X) → ((x : X) → IsIn x xs → test x ≡ false) → list_any test xs ≡ false
 none-in test [] h = refl
@@ -65,7 +63,7 @@ module _ (c : Compare) (x : Value) (bag : Bag) where
 
   -- some row passes the test, or none does
   passes : (test : Truth → Bool) (u : Row) → InBag u bag → test (compared u) ≡ true → list_any test (comparisons c x bag) ≡ true
-  passes test u h e = any-map test compared bag ∙ some-in (λ v. test (compared v)) u bag (in_bag-in u bag h) e
+  passes test u h e = any-map test compared bag ∙ any_in (λ v. test (compared v)) u bag (in_bag-in u bag h) e
 
   fails : (test : Truth → Bool) → ((v : Row) → InBag v bag → test (compared v) ≡ false) → list_any test (comparisons c x bag) ≡ false
   fails test h = any-map test compared bag ∙ none-in (λ v. test (compared v)) bag (λ v i. h v (in-in_bag v bag i))

@@ -107,7 +107,7 @@ listed_once rows us l u h = omega (arith, l.once u, (l.rows u).1 h)
 pub sum_by-listed : (g : Row → ℕ) (rows us : Bag) → Lists rows us → sum_by g us ≡ sum_by (λ d. count d us * g d) rows
 sum_by-listed g rows us l = sum_by-weighed g rows us (listed_once rows us l)
 
-unit-cond : (b : Bool) (n : ℕ) → n * one_if b ≡ cond b n 0
+pub unit-cond : (b : Bool) (n : ℕ) → n * one_if b ≡ cond b n 0
 unit-cond true n = mul-one n
 unit-cond false n = mul-zero n
 

@@ -1,10 +1,10 @@
 //! The law of each node: the contract of a function that does nothing.
 ghost use Rattle.std.specs.Prelude.{◌≡◌, ◌≢◌, ◌↔◌, ℕ, pos, ◌+◌, ◌-◌, min, Bool, cond, not, List, [], ◌∷◌, map, length, count_by, IsTrue, IsFalse};
 ghost use Rattle.null_logic.specs.Arithmetic.{fits_64};
-ghost use Rattle.null_logic.specs.Comparison.{is_null};
 ghost use Rattle.null_logic.specs.declared.run_fault.RunFault.TheVariants.{OutOfRange};
 ghost use Rattle.null_logic.specs.declared.run_fault.RunFault.{RunFault};
 ghost use Rattle.perm_values.specs.Rows.{same_row, picked};
+ghost use Rattle.perm_values.specs.Values.{is_null};
 ghost use Rattle.perm_values.specs.declared.key.Key.{Key};
 ghost use Rattle.perm_values.specs.declared.kind.Kind.{Kind};
 ghost use Rattle.perm_values.specs.declared.value.Value.TheVariants.{Null, Integer};

@@ -12,7 +12,6 @@ use expression_texts::{Draft, push_expr, uses};
 use perm_values::{Bytes, Copyable, Kind, List, NoMemory};
 use std::alloc::Global;
 
-mod counts;
 mod frame;
 mod groups;
 mod joins;
@@ -21,7 +20,6 @@ mod sublinks;
 mod tables;
 mod words;
 
-pub use counts::columns_of;
 pub use frame::{Frame, deeper};
 pub use groups::{push_above, push_below, push_grouped};
 pub use joins::{push_lateral_source, push_set, push_source};

@@ -9,13 +9,13 @@ ghost use Rattle.query_texts.specs.QueryTexts.{answer_bytes, apart_unless, query
 ghost use Rattle.query_texts.specs.built.Parts.{block_part, over_bytes, select_part};
 
 use crate::clauses::{
-    Frame, TableNames, asked_back, columns_of, deeper, join_text, lateral_text, push_above,
-    push_asking, push_below, push_called, push_columns, push_condition, push_grouped,
-    push_lateral_source, push_limit, push_ordered, push_projecting, push_set, push_source,
-    push_table, push_unread, push_where,
+    Frame, TableNames, asked_back, deeper, join_text, lateral_text, push_above, push_asking,
+    push_below, push_called, push_columns, push_condition, push_grouped, push_lateral_source,
+    push_limit, push_ordered, push_projecting, push_set, push_source, push_table, push_unread,
+    push_where,
 };
 use crate::shapes::{is_block, is_chain, is_chained, is_select};
-use bag_algebra::{Aggr, Answer, JoinKind, Query, Sublink};
+use bag_algebra::{Aggr, Answer, JoinKind, Query, Sublink, exact_width};
 use expression_texts::{Draft, behind};
 use perm_values::{Bytes, List, NoMemory};
 use std::alloc::Global;
@@ -89,7 +89,7 @@ fn push_query(frame: &Frame, query: &Query, draft: &mut Draft) -> Result<(), NoM
             draft,
         ),
         Query::Limit { input, keys, count } => {
-            let columns = columns_of(input.get())?;
+            let columns = exact_width(input.get())?;
             draft.push(b"SELECT ")?;
             push_listed(frame, input.get(), draft)?;
             push_limit(keys.as_slice(), columns, *count, draft)
@@ -133,7 +133,7 @@ fn push_all(frame: &Frame, query: &Query, draft: &mut Draft) -> Result<(), NoMem
         ++ (columns_text frame.now.prefix.now (called_in frame.now) (width_of query.now)
         ++ block_part frame.now.tables.now frame.now.prefix.now query.now)) }
 {
-    let count = columns_of(query)?;
+    let count = exact_width(query)?;
     push_columns(frame, count, draft)?;
     push_bare(frame, query, draft)
 }
@@ -162,13 +162,13 @@ fn push_bare(frame: &Frame, query: &Query, draft: &mut Draft) -> Result<(), NoMe
             subs,
         } => {
             let texts = sub_texts(frame, subs.as_slice(), draft.alloc())?;
-            let before = columns_of(left.get())?;
+            let before = exact_width(left.get())?;
             push_left(frame, *kind, left.get(), draft)?;
             push_joined(frame, *kind, before, right.get(), draft)?;
             push_condition(frame, texts.as_slice(), condition, draft)
         }
         Query::Apply { kind, left, right } => {
-            let before = columns_of(left.get())?;
+            let before = exact_width(left.get())?;
             push_from(frame, left.get(), draft)?;
             push_lateral(frame, *kind, before, right.get(), draft)
         }
@@ -235,7 +235,7 @@ fn push_listed(frame: &Frame, query: &Query, draft: &mut Draft) -> Result<(), No
     if is_select(query) {
         push_part(frame, query, draft)
     } else {
-        let count = columns_of(query)?;
+        let count = exact_width(query)?;
         push_columns(frame, count, draft)?;
         push_over(frame, query, draft)
     }
@@ -381,7 +381,8 @@ fn push_answer(tables: &[TableNames], answer: &Answer, draft: &mut Draft) -> Res
 /// The text of a query with the names of its columns and the order of its rows, where PROVENANCE is taken out of it; what its
 /// tables are called is given. It fails only for want of memory.
 pub fn query_text(alloc: Global, tables: &[TableNames], answer: &Answer) -> Result<Bytes, NoMemory>
-    ensures { IfOk result (λ text. text ≡ answer_bytes tables.now answer.now.query answer.now.names answer.now.keys) }
+    ensures { IfOk result (λ text. text
+        ≡ answer_bytes tables.now answer.now.query answer.now.names answer.now.keys) }
 {
     let mut text = Draft::new(alloc);
     push_answer(tables, answer, &mut text)?;

@@ -3,7 +3,7 @@ ghost use Rattle.std.specs.Prelude.{◌≡◌, ◌≤◌, ◌+◌, ◌++◌, IfO
 ghost use Rattle.refusal_notes.specs.places.Places.{back_to_feed, begins_character};
 ghost use Rattle.refusal_notes.specs.Excerpts.{behind_at, behind_piece, blank, continued, excerpt, front_at, front_piece, shown};
 
-use crate::places::line_at;
+use crate::places::{begins_character, line_at};
 use crate::read::from;
 use perm_values::{Bytes, NoMemory};
 use std::alloc::Global;
@@ -153,10 +153,4 @@ fn blank(byte: u8) -> u8
     ensures { result ≡ blank byte }
 {
     if byte == b'\t' { b'\t' } else { b' ' }
-}
-
-fn begins_character(byte: u8) -> bool
-    ensures { result ≡ begins_character byte }
-{
-    byte < 128 || byte >= 192
 }

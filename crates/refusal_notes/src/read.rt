@@ -14,7 +14,8 @@ use csv_tables::DataError;
 
 /// The cause whose line this is, without its line feed; `None` where it is no cause's.
 pub fn cause_of(line: &[u8]) -> Option<Cause>
-    ensures read { (cause : Cause) → IsCause cause → line.now ++ codes "\n" ≡ line_of cause → result ≡ Some cause }
+    ensures read { (cause : Cause) → IsCause cause → line.now ++ codes "\n" ≡ line_of cause →
+        result ≡ Some cause }
     ensures named { IfSome result (λ cause. line.now ++ codes "\n" ≡ line_of cause) }
 {
     let cause = guessed(line);
@@ -68,7 +69,8 @@ fn of_script(line: &[u8]) -> Cause
 
 /// A rule that a file's records break.
 fn of_data(line: &[u8]) -> Cause
-    ensures { (error : DataError) → IsDataCause error → line.now ++ codes "\n" ≡ data_line error → result ≡ Data error }
+    ensures { (error : DataError) → IsDataCause error → line.now ++ codes "\n" ≡ data_line error →
+        result ≡ Data error }
 {
     let place = from(line, 17);
     let mark = byte_at(line, 8);
@@ -132,8 +134,8 @@ fn digit(byte: u8) -> u8
 
 /// The byte at a place; 0 where none is there.
 fn byte_at(line: &[u8], at: usize) -> u8
-    ensures byte { (before behind : List ℕ) (byte : ℕ) → length before ≡ at → line.now ≡ before ++ byte ∷ behind
-        → result ≡ byte }
+    ensures byte { (before behind : List ℕ) (byte : ℕ) → length before ≡ at →
+        line.now ≡ before ++ byte ∷ behind → result ≡ byte }
     ensures none { length line.now ≤ at → result ≡ 0 }
 {
     if at < line.len() { line[at] } else { 0 }

@@ -4,7 +4,7 @@ use Rattle.std.proofs.Common.{◌≡◌, ◌↔◌, ◌+◌, ◌<◌, ◌≤◌,
 use Rattle.std.proofs.lemmas.List.{length-map, length-take-le, take-append-drop}
 use Rattle.std.proofs.lemmas.List.FromFn.{length-range_with_len}
 use Rattle.std.specs.List.{range_with_len}
-use Rattle.perm_values.specs.Rows.{picked, same_row}
+use Rattle.perm_values.specs.Rows.{picked, same_row, PlacesWithin}
 use Rattle.perm_values.specs.ValueLaws.{row_decides}
 use Rattle.perm_values.specs.declared.kind.Kind.{Kind}
 use Rattle.perm_values.specs.declared.kind.Kind.TheVariants as kind
@@ -21,7 +21,7 @@ use Rattle.bag_algebra.specs.Means.{Witness, flat, all_empty, good_rows, joined_
 use Rattle.bag_algebra.specs.Outcome.{Outcome, Good, Bad, and_then, mapped, both_then}
 use Rattle.bag_algebra.specs.built.Patterns.{AggregateOf}
 use Rattle.bag_algebra.specs.Rewriting.{IsRewrite, Stands, SameRows}
-use Rattle.bag_algebra.specs.WellFormed.{WellFormed, HasKind, PlacesIn, AggregatesForm}
+use Rattle.bag_algebra.specs.WellFormed.{WellFormed, HasKind, AggregatesForm}
 use Rattle.bag_algebra.specs.declared.query.AggFn.{AggFn}
 use Rattle.bag_algebra.specs.declared.query.Aggr.{Aggr}
 use Rattle.bag_algebra.specs.declared.query.JoinKind.TheVariants.{Left}
@@ -33,10 +33,11 @@ use Rattle.contribution.specs.Fitting.{Fitting}
 use Rattle.rewrite_core.proofs.JoinedOutcomes.{Related, Combines, Joins, related-onward, joined-related, unlisted, no_entries, unlisted_list, unlisted-related, answer-listed, listed-row}
 use Rattle.rewrite_core.proofs.JoinedRows.{Spread, beside_list, spread-from_beside, beside-from_spread, JoinedList, of_met, of_alone, joined_good, joined-spread}
 use Rattle.rewrite_core.proofs.KeptRewriting.{Side, rewriting-related, rewriting-side, kept-rewrites}
-use Rattle.rewrite_core.proofs.KeptRows.{row-width, list-width, blank-width, length-nulls, nulls-of_rewriting, kept-row, kept-kinds}
+use Rattle.rewrite_core.proofs.KeptRows.{row-width, list-width, blank-width, nulls-of_rewriting, kept-row, kept-kinds}
 use Rattle.rewrite_core.proofs.Places.{at, at-between, at-moved, at-within, within-range}
 use Rattle.rewrite_core.specs.rewritings.KeptColumns.{kept_places, pairs_of, columns_kept}
 use Rattle.query_laws.proofs.Inputs.{across, aggregate-input}
+use Rattle.query_laws.proofs.Joined.{length-nulls}
 use Rattle.contribution.proofs.ColumnQueries.{all-first, all-nothing, all-rest}
 use Rattle.contribution.proofs.SameTests.{tests-value, conjunction-formed}
 use Rattle.rewrite_core.specs.rewritings.Rewritten.{Beside}
@@ -81,16 +82,16 @@ module _ (groups : List ℕ) (from : ℕ) where
       (ap (λ xs. xs ++ second) (sym (take-append-drop (length groups) first)) ∙ append_assoc (take (length groups) first) (drop (length groups) first) second)
       ∙ at-between d [] (take (length groups) first) (drop (length groups) first ++ second) 0 (length groups) refl (length-take-le (length groups) first h)
 
-  at-others : {X : Type 0} (d : X) (first second more : List X) → length first ≡ from → PlacesIn (length second) groups → at d (first ++ (second ++ more)) others ≡ at d second groups
+  at-others : {X : Type 0} (d : X) (first second more : List X) → length first ≡ from → PlacesWithin (length second) groups → at d (first ++ (second ++ more)) others ≡ at d second groups
   at-others d first second more e within = at-moved d first (second ++ more) groups from e ∙ at-within d second more groups within
 
-  class-value : (env : List Row) (t u more : Row) → length t ≡ from → length groups ≤ from → PlacesIn (length u) groups →
+  class-value : (env : List Row) (t u more : Row) → length t ≡ from → length groups ≤ from → PlacesWithin (length u) groups →
       value (same_groups groups from) (t ++ (u ++ more)) env [] ≡ Good (Boolean (same_row (take (length groups) t) (picked groups u)))
   class-value env t u more e h within =
       tests-value (t ++ (u ++ more)) env [] 0 firsts others as_many
       ∙ (λ i. Good (Boolean (same_row (at-first Null t (u ++ more) (omega (arith, e, h)) i) (at-others Null t u more e within i))))
 
-  class-formed : (outer : List (List Kind)) (keys rest second more : List Kind) → length (keys ++ rest) ≡ from → keys ≡ kinds_in second groups → PlacesIn (length second) groups →
+  class-formed : (outer : List (List Kind)) (keys rest second more : List Kind) → length (keys ++ rest) ≡ from → keys ≡ kinds_in second groups → PlacesWithin (length second) groups →
       HasKind ((keys ++ rest ++ (second ++ more)) ∷ outer) [] (same_groups groups from) kind.Boolean
   class-formed outer keys rest second more e same within =
       let kinds = keys ++ rest ++ (second ++ more) in
@@ -151,7 +152,7 @@ module _ (q b p : Query) (groups : List ℕ) (aggregates : List Aggr) (s : Stand
     plain = s.plain;
     formed = λ outer w. record {
       input = s.formed outer w.input;
-      groups = subst (λ n. PlacesIn n groups) (wide outer w.input) w.groups;
+      groups = subst (λ n. PlacesWithin n groups) (wide outer w.input) w.groups;
       aggregates = subst (λ ks. AggregatesForm (ks ∷ outer) aggregates) (sym (s.kinds outer w.input)) w.aggregates;
     };
     tables = s.tables;
@@ -226,7 +227,7 @@ module _ (q b p : Query) (groups : List ℕ) (aggregates : List Aggr) (s : Stand
       holds t u l w h c k =
           ap (λ row. value (same_groups groups kept) (row ++ (u ++ flat w)) env []) (without t l c)
           ∙ class-value groups kept env t u (flat w) (row_width t h) few
-          (subst (λ n. PlacesIn n groups) (sym (row-width outer q db env fitting us u is_right k)) f.formed.groups)
+          (subst (λ n. PlacesWithin n groups) (sym (row-width outer q db env fitting us u is_right k)) f.formed.groups)
 
       abbrev places : List ℕ
       places = kept_places kept columns (length all)

@@ -3,7 +3,7 @@ use Rattle.std.proofs.Common.{◌≡◌, ◌↔◌, ℕ, true, List, [], ◌∷�
 use Rattle.std.proofs.lemmas.List.{map-append}
 use Rattle.std.proofs.lemmas.List.Elements.{All-append}
 use Rattle.std.specs.List.{range_with_len}
-use Rattle.perm_values.specs.Rows.{picked}
+use Rattle.perm_values.specs.Rows.{picked, PlacesWithin}
 use Rattle.perm_values.specs.declared.kind.Kind.{Kind}
 use Rattle.perm_values.specs.declared.kind.Kind.TheVariants.{Text}
 use Rattle.perm_values.specs.declared.value.Value.TheVariants.{Null}
@@ -20,7 +20,7 @@ use Rattle.bag_algebra.specs.Means.{Held, Witness, flat}
 use Rattle.bag_algebra.specs.Outcome.{Outcome, Good, Bad, mapped}
 use Rattle.bag_algebra.specs.built.Patterns.{BaseOf, ProjectOf, ProvOf}
 use Rattle.bag_algebra.specs.Rewriting.{IsRewrite, SameRows, SameSet, Stands}
-use Rattle.bag_algebra.specs.WellFormed.{PlacesIn, WellFormed}
+use Rattle.bag_algebra.specs.WellFormed.{WellFormed}
 use Rattle.bag_algebra.specs.declared.query.Label.{Label}
 use Rattle.bag_algebra.specs.declared.query.Query.{Query, end_of-Sublink}
 use Rattle.bag_algebra.specs.declared.query.Query.TheVariants.{Base}
@@ -53,7 +53,7 @@ order_of b places = range_with_len 0 (width_of b) ++ places
 abbrev pub columns_of : Query → List ℕ → Query
 columns_of b places = ProjectOf b (column_items (kinds_of b) (order_of b places)) [] end_of-Sublink
 
-pub order-within : (b : Query) (places : List ℕ) → PlacesIn (width_of b) places → PlacesIn (width_of b) (order_of b places)
+pub order-within : (b : Query) (places : List ℕ) → PlacesWithin (width_of b) places → PlacesWithin (width_of b) (order_of b places)
 order-within b places within =
     All-append (λ place. place < (width_of b)) (range_with_len 0 (width_of b)) places (within-range (width_of b) 0 (width_of b) (omega arith)) within
 
@@ -81,7 +81,7 @@ module _ (q b : Query) (places : List ℕ) (label : Label) (stands : Stands q b)
 
     formed-rewriting : WellFormed outer rewriting
     formed-rewriting =
-        formed-columns b order (order-within b places (subst (λ kinds. PlacesIn (length kinds) places) (sym same_kinds) formed.in_range)) outer
+        formed-columns b order (order-within b places (subst (λ kinds. PlacesWithin (length kinds) places) (sym same_kinds) formed.in_range)) outer
         (stands.formed outer formed.input)
 
     module _ (db : Database) (env : List Row) (tables : TablesFit db node) (fitting : env_fits env outer ≡ true) where

@@ -33,9 +33,10 @@ use Rattle.contribution.specs.Fitting.{Fitting}
 use Rattle.rewrite_core.proofs.JoinedOutcomes.{Related, Combines, Joins, joined-related, unlisted, no_entries, unlisted_list, unlisted-related, answer-listed, listed-row}
 use Rattle.rewrite_core.proofs.JoinedRows.{Spread, beside_list, beside-from_spread, JoinedList, of_met, of_alone, joined_good, joined-spread}
 use Rattle.rewrite_core.proofs.KeptRewriting.{Side, rewriting-related, rewriting-side, kept-rewrites}
-use Rattle.rewrite_core.proofs.KeptRows.{row-width, list-width, blank-width, nulls-of_rewriting, length-nulls, kept-row, kept-kinds, same-value, same-formed}
+use Rattle.rewrite_core.proofs.KeptRows.{row-width, list-width, blank-width, nulls-of_rewriting, kept-row, kept-kinds, same-value, same-formed}
 use Rattle.rewrite_core.specs.rewritings.KeptColumns.{columns_kept, differs_from_first, kept_places, pairs_of, same_as_first}
 use Rattle.query_laws.proofs.Inputs.{across, except-inputs}
+use Rattle.query_laws.proofs.Joined.{length-nulls}
 use Rattle.contribution.proofs.NodeQueries.{meaning-pairs, formed-pairs, plain-pairs}
 use Rattle.contribution.proofs.PartForms.{no_parts-have, more_parts-have}
 use Rattle.rewrite_core.specs.rewritings.Rewritten.{Beside}

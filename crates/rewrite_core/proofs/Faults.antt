@@ -36,13 +36,6 @@ same_faults-then make (Good x) (Bad g) same = same
 same_faults-then make (Bad f) (Good y) same = same
 same_faults-then make (Bad f) (Bad g) same = same
 
--- what is mapped to something good is good
-pub good-mapped : {X Y : Type 0} (make : X → Y) (o : Outcome X) (y : Y) → mapped make o ≡ Good y → (x : X) × (o ≡ Good x) × (make x ≡ y)
-good-mapped {X} {Y} make (Good x) y e = (x, refl, same_good e) where
-  same_good : {a b : Y} → Good a ≡ Good b → a ≡ b
-  same_good e = cc
-good-mapped make (Bad f) y e = absurd (cc e)
-
 -- a condition that comes to the same on two rows is bad alike on both
 pub kept-alike : (condition other : Row → Outcome Value) (u x : Row) → other x ≡ condition u → SameFaults (kept condition u) (kept other x)
 kept-alike condition other u x same =

@@ -1,6 +1,7 @@
 -- A plain query stands for itself.
 use Rattle.std.proofs.Common.{◌≡◌, ℕ, true, List, refl, ◌∙◌}
 use Rattle.perm_values.specs.declared.kind.Kind.{Kind}
+use Rattle.bag_algebra.proofs.Outcomes.{same_rows-itself}
 use Rattle.bag_algebra.proofs.TablesRead.{reads_among-itself, reads_among-onward, reads_among-fit}
 use Rattle.bag_algebra.specs.Bags.{Bag}
 use Rattle.bag_algebra.specs.Meaning.{meaning}
@@ -8,10 +9,6 @@ use Rattle.bag_algebra.specs.Outcome.{Outcome, Good, Bad}
 use Rattle.bag_algebra.specs.Rewriting.{is_plain, Stands, SameRows}
 use Rattle.bag_algebra.specs.declared.query.Query.{Query}
 use Rattle.bag_algebra.specs.declared.query.Query.TheVariants.{Table, Single}
-
-pub same_rows-itself : (o : Outcome Bag) → SameRows o o
-same_rows-itself (Good us) = record { counts = λ t. refl }
-same_rows-itself (Bad f) = refl
 
 pub stands-itself : (q : Query) → is_plain q ≡ true → Stands q q
 stands-itself q plain = record {

@@ -3,7 +3,7 @@ use Rattle.std.proofs.Common.{◌≡◌, ℕ, ◌+◌, ◌-◌, ◌≤◌, List,
 use Rattle.std.proofs.lemmas.List.{map-append}
 use Rattle.std.proofs.lemmas.List.Elements.{All-append}
 use Rattle.std.specs.List.{range_with_len}
-use Rattle.bag_algebra.specs.WellFormed.{PlacesIn}
+use Rattle.perm_values.specs.Rows.{PlacesWithin}
 use Rattle.rewrite_core.proofs.Places.{at-between, within-range}
 use Rattle.rewrite_core.proofs.RowColumns.{behind}
 use Rattle.rewrite_core.specs.JoinColumns.{own_places, added_places}
@@ -56,12 +56,12 @@ module _ {X : Type 0} (other : X) (left left_added right right_added : List X) (
       ∙ (λ i. own-columns i ++ added-columns i)
 
 module _ (a b c d : ℕ) (left_fits : a ≤ b) (right_fits : c ≤ d) where
-  pub own-within : PlacesIn (b + d) (own_places a b c)
+  pub own-within : PlacesWithin (b + d) (own_places a b c)
   own-within =
       All-append (λ place. place < (b + d)) (range_with_len 0 a) (range_with_len b c) (within-range (b + d) 0 a (omega arith))
       (within-range (b + d) b c (omega arith))
 
-  pub all-within : PlacesIn (b + d) (own_places a b c ++ added_places a b c d)
+  pub all-within : PlacesWithin (b + d) (own_places a b c ++ added_places a b c d)
   all-within =
       All-append (λ place. place < (b + d)) (own_places a b c) (added_places a b c d) own-within
       (All-append (λ place. place < (b + d)) (range_with_len a (b - a)) (range_with_len (b + c) (d - c)) (within-range (b + d) a (b - a) (omega arith))

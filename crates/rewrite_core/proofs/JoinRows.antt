@@ -3,12 +3,13 @@
 use Rattle.std.proofs.Common.{◌≡◌, ◌↔◌, ℕ, ◌+◌, ◌≤◌, Bool, true, not, List, [], ◌∷◌, ◌++◌, map, length, Contains, refl, sym, ap, ◌∙◌, subst, append-nil, arith, length-append}
 use Rattle.std.proofs.lemmas.List.Elements.{Contains-append_left, Contains-append_right}
 use Rattle.std.specs.List.{list_any}
-use Rattle.perm_values.specs.Rows.{picked}
+use Rattle.perm_values.specs.Rows.{picked, PlacesWithin}
 use Rattle.perm_values.specs.declared.kind.Kind.{Kind}
 use Rattle.perm_values.specs.declared.kind.Kind.TheVariants.{Boolean, Text}
 use Rattle.perm_values.specs.declared.value.Value.{Value}
 use Rattle.perm_values.specs.declared.value.Value.TheVariants.{Null}
 use Rattle.bag_algebra.proofs.Members.{IsIn, in-filter, from-filter, in-map, from-map, in-member}
+use Rattle.bag_algebra.proofs.Outcomes.{mapped-is}
 use Rattle.bag_algebra.proofs.TablesRead.{each_table-kept}
 use Rattle.bag_algebra.proofs.Widths.{place_kinds-append, places_width}
 use Rattle.bag_algebra.specs.Bags.{Row, Bag, nulls}
@@ -22,7 +23,7 @@ use Rattle.bag_algebra.specs.Outcome.{Outcome, Good, Bad, both_then, gather, map
 use Rattle.bag_algebra.specs.built.Patterns.{JoinOf, ProjectOf, ProvOf}
 use Rattle.bag_algebra.specs.Rewriting.{IsRewrite, SameSet}
 use Rattle.bag_algebra.specs.TablesRead.{tables_read}
-use Rattle.bag_algebra.specs.WellFormed.{HasKind, PlacesIn, WellFormed}
+use Rattle.bag_algebra.specs.WellFormed.{HasKind, WellFormed}
 use Rattle.bag_algebra.specs.declared.expr.Expr.{Expr}
 use Rattle.bag_algebra.specs.declared.query.JoinKind.{JoinKind}
 use Rattle.bag_algebra.specs.declared.query.Query.{Query, end_of-Sublink}
@@ -34,8 +35,8 @@ use Rattle.contribution.proofs.ColumnQueries.{formed-columns, kinds_of-columns, 
 use Rattle.contribution.proofs.NodeQueries.{formed-pairs, meaning-pairs, plain-pairs, plain-projected}
 use Rattle.contribution.specs.MovedColumns.{IsMoved}
 use Rattle.bag_algebra.proofs.Truths.{both-true}
-use Rattle.rewrite_core.proofs.Faults.{SameFaults, kept-alike, gather-bad_alike, good-mapped, mapped-same_faults, same_faults-then}
-use Rattle.rewrite_core.proofs.KeptRows.{flat-append, flat-all_empty, length-nulls, nulls-append, list-width}
+use Rattle.rewrite_core.proofs.Faults.{SameFaults, kept-alike, gather-bad_alike, mapped-same_faults, same_faults-then}
+use Rattle.rewrite_core.proofs.KeptRows.{flat-append, flat-all_empty, nulls-append, list-width}
 use Rattle.rewrite_core.proofs.JoinColumns.{all-columns, all-within, own-columns, own-within}
 use Rattle.rewrite_core.proofs.FlatRows.{Flattened, flattened, stands_beside}
 use Rattle.rewrite_core.proofs.NodeRows.{Made, rewritten-over_both}
@@ -46,6 +47,7 @@ use Rattle.rewrite_core.specs.JoinColumns.{own_places, added_places, IsLaidOut}
 use Rattle.rewrite_core.specs.rewritings.Rewritten.{Beside}
 use Rattle.query_laws.proofs.AnswerRows.{answer-in, answer-from}
 use Rattle.query_laws.proofs.JoinLists.{join-lists}
+use Rattle.query_laws.proofs.Joined.{length-nulls}
 use Rattle.query_laws.proofs.PairedLists.{none_passes, none-pass}
 use Rattle.query_laws.specs.ListsOfNodes as law
 use Rattle.query_laws.specs.SublinkLists.{InAnswer, no_sublink}
@@ -123,9 +125,9 @@ module _ (kind : JoinKind) (left left_rewriting right right_rewriting : Query) (
     formed-rewriting =
         let within = all-within (width_of left) (width_of left_rewriting) (width_of right) (width_of right_rewriting) left_longer right_longer in
         let within_own = own-within (width_of left) (width_of left_rewriting) (width_of right) (width_of right_rewriting) left_longer right_longer in
-        formed-columns pairs order (subst (λ n. PlacesIn n order) (sym whole_width) within) outer
+        formed-columns pairs order (subst (λ n. PlacesWithin n order) (sym whole_width) within) outer
         (formed-pairs kind left_rewriting right_rewriting on outer (left_given.formed outer formed.left) (right_given.formed outer formed.right)
-        (moved.kind (kinds_of left_rewriting ++ kinds_of right_rewriting) outer [] Boolean (subst (λ n. PlacesIn n own) (sym whole_width) within_own)
+        (moved.kind (kinds_of left_rewriting ++ kinds_of right_rewriting) outer [] Boolean (subst (λ n. PlacesWithin n own) (sym whole_width) within_own)
         (subst (λ kinds. HasKind (kinds ∷ outer) [] condition Boolean) (sym own-kinds) formed.condition)))
 
     module _ (db : Database) (env : List Row) (tables : TablesFit db node) (fitting : env_fits env outer ≡ true) where
@@ -403,7 +405,7 @@ module _ (kind : JoinKind) (left left_rewriting right right_rewriting : Query) (
           faults = same_faults-then (map (picked order)) (joined_rows kind meets (width_of left) (width_of right) us vs) (joined_rows kind meets_longer (width_of left_rewriting) (width_of right_rewriting) xs ys)
               (mapped-same_faults _ _ (met_pairs meets us vs) (met_pairs meets_longer xs ys) faults);
           rows = λ ts zs e f.
-              let found = good-mapped (map (picked order)) (joined_rows kind meets_longer (width_of left_rewriting) (width_of right_rewriting) xs ys) zs f in
+              let found = mapped-is (map (picked order)) (joined_rows kind meets_longer (width_of left_rewriting) (width_of right_rewriting) xs ys) zs f in
               record {
                 there = λ t w i c.
                     let row = there-list found.0 found.1 t w ((listed t w).0 c).1 in

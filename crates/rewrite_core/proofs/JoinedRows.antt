@@ -4,6 +4,7 @@ use Rattle.std.proofs.Common.{◌≡◌, inl, inr, ℕ, Bool, true, false, cond,
 use Rattle.perm_values.specs.declared.value.Value.{Value}
 use Rattle.perm_values.specs.declared.value.Value.TheVariants.{Boolean}
 use Rattle.bag_algebra.proofs.Members.{IsIn, in-map, from-map, in-filter, from-filter, in-member, member-in}
+use Rattle.bag_algebra.proofs.TruthValues.{holds-boolean}
 use Rattle.bag_algebra.specs.Bags.{Row, Bag, member, nulls}
 use Rattle.bag_algebra.specs.Means.{Witness, flat, good_rows, holds_of, is_met, kept, joined_rows, keeps_left, keeps_right, unmatched_left, unmatched_right}
 use Rattle.bag_algebra.specs.Outcome.{Outcome, Good, mapped, both, gather}
@@ -54,10 +55,6 @@ gather-good f (x ∷ xs) good =
     let rest = gather-good f xs (λ y h. good y (inr h)) in
     (first.0 ++ rest.0, λ i. both (λ ys zs. ys ++ zs) (first.1 i) (rest.1 i))
 
-met-is : (b : Bool) → is_met (Good (Boolean b)) ≡ b
-met-is true = refl
-met-is false = refl
-
 -- the lists of a joined row t: one of t on the left and one of a right row that it meets; of a row that meets none, where
 -- those are kept, its own and then the blank
 pub data JoinedList (left_lists right_lists : Row → List Witness) (us : Bag) (meets : Row → Row → Bool) (kind : JoinKind) (blank : Witness) (t : Row) (w : Witness) : Type 0 where
@@ -73,7 +70,7 @@ module _ (make : Row → Witness → Row) (left_lists : Row → List Witness) (t
     (kind : JoinKind) (one_side : keeps_right kind ≡ false) (left_width right_width : ℕ) where
   met : (t u : Row) (l r : Witness) → IsTrue (member t ts) → Contains (left_lists t) l → IsTrue (member u us) → Contains (right_lists u) r →
       is_met (condition (make t l ++ (u ++ flat r))) ≡ meets t u
-  met t u l r h g i k = ap is_met (holds t u l r h g i k) ∙ met-is (meets t u)
+  met t u l r h g i k = ap is_met (holds t u l r h g i k) ∙ holds-boolean (meets t u)
 
   good-pair : (z x : Row) → IsIn z zs → IsIn x xs → (bag : Bag) × (kept condition (z ++ x) ≡ Good bag)
   good-pair z x h g =

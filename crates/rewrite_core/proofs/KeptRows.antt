@@ -43,10 +43,6 @@ nulls-append (suc n) m =
     let next : suc n + m ≡ suc (n + m) = omega arith in
     ap nulls next ∙ ap (λ row. Null ∷ row) (nulls-append n m)
 
-pub length-nulls : (n : ℕ) → length (nulls n) ≡ n
-length-nulls zero = refl
-length-nulls (suc n) = ap suc (length-nulls n)
-
 pub flat-all_empty : (places : List Place) → flat (all_empty places) ≡ nulls (length (place_kinds places))
 flat-all_empty [] = refl
 flat-all_empty (place ∷ places) =

@@ -1,6 +1,6 @@
 -- LIMIT over what stands for its input, each row beside those of the input's rewriting that begin with it.
 use Rattle.std.proofs.Common.{◌≡◌, ◌↔◌, ◌+◌, ℕ, List, [], ◌∷◌, ◌++◌, map, length, Contains, IsTrue, take, append_assoc, append-nil, length-append, refl, sym, ap, ◌∙◌, subst, subst₂, arith}
-use Rattle.perm_values.specs.Rows.{picked, printed_cmp}
+use Rattle.perm_values.specs.Rows.{picked, printed_cmp, KeysWithin}
 use Rattle.perm_values.specs.declared.key.Key.{Key}
 use Rattle.perm_values.specs.declared.kind.Kind.{Kind}
 use Rattle.perm_values.specs.declared.kind.Kind.TheVariants.{Boolean}
@@ -14,7 +14,7 @@ use Rattle.bag_algebra.specs.Means.{Witness, flat, good_rows, joined_rows}
 use Rattle.bag_algebra.specs.Outcome.{Outcome, Good, Bad, mapped, both_then}
 use Rattle.bag_algebra.specs.built.Patterns.{LimitOf}
 use Rattle.bag_algebra.specs.Rewriting.{IsRewrite, Stands, SameRows}
-use Rattle.bag_algebra.specs.WellFormed.{WellFormed, HasKind, KeysIn}
+use Rattle.bag_algebra.specs.WellFormed.{WellFormed, HasKind}
 use Rattle.bag_algebra.specs.declared.query.JoinKind.TheVariants.{Inner}
 use Rattle.bag_algebra.specs.declared.query.Query.{Query}
 use Rattle.bag_algebra.specs.declared.query.Query.TheVariants.{Limit}
@@ -71,7 +71,7 @@ module _ (q b p : Query) (keys : List Key) (most : ℕ) (s : Stands q b) (r : Is
     plain = s.plain;
     formed = λ outer w. record {
       input = s.formed outer w.input;
-      keys = subst (λ n. KeysIn n keys) (wide outer w.input) w.keys;
+      keys = subst (λ n. KeysWithin n keys) (wide outer w.input) w.keys;
       bound = w.bound;
     };
     tables = s.tables;

@@ -9,12 +9,13 @@ use Rattle.perm_values.specs.declared.value.Value.{Value}
 use Rattle.perm_values.specs.declared.value.Value.TheVariants.{Null}
 use Rattle.bag_algebra.proofs.Columns.{column_items-give}
 use Rattle.bag_algebra.proofs.Members.{IsIn, in-member}
+use Rattle.bag_algebra.proofs.Outcomes.{mapped-is}
 use Rattle.bag_algebra.proofs.Widths.{places_width}
 use Rattle.bag_algebra.specs.Bags.{Row, Bag}
 use Rattle.bag_algebra.specs.built.Openings.{Project-is}
 use Rattle.bag_algebra.specs.Expressions.{value}
 use Rattle.bag_algebra.specs.Fits.{TablesFit, env_fits}
-use Rattle.bag_algebra.specs.Kinds.{kinds_in, kinds_of, place_kinds, shape, width_of}
+use Rattle.bag_algebra.specs.Kinds.{kinds_in, kinds_of, place_kinds, shape, width_of, item_kinds}
 use Rattle.bag_algebra.specs.Meaning.{Database, meaning, witnesses, items_on}
 use Rattle.bag_algebra.specs.Means.{Witness, flat, good_rows, no_subs}
 use Rattle.bag_algebra.specs.Outcome.{Outcome, Good, Bad, and_then, both, each, mapped}
@@ -32,8 +33,7 @@ use Rattle.contribution.specs.Fitting.{Fitting}
 use Rattle.contribution.proofs.ColumnQueries.{column_items-formed, column_items-kinds}
 use Rattle.contribution.proofs.NodeQueries.{meaning-projected, formed-projected, plain-projected}
 use Rattle.contribution.proofs.Padding.{items-append, kinds-append}
-use Rattle.contribution.specs.ItemKinds.{item_kinds}
-use Rattle.rewrite_core.proofs.Faults.{SameFaults, same_faults-made, each-bad_alike, good-mapped, in-each}
+use Rattle.rewrite_core.proofs.Faults.{SameFaults, same_faults-made, each-bad_alike, in-each}
 use Rattle.rewrite_core.proofs.FlatRows.{Flattened, flattened, stands_beside, row-begins}
 use Rattle.rewrite_core.proofs.NodeRows.{Made, rewritten-over}
 use Rattle.rewrite_core.proofs.Places.{within-range}
@@ -151,7 +151,7 @@ module _ (q r : Query) (items : List Item) (given : IsRewrite q r) where
               let row = beside_rows.back found.0 found.1 in
               let u = row.0 in
               let w = row.1 in
-              let made = good-mapped (λ t. t ++ flat w) (on u) x (sym (all_on-longer u w row.2 row.3) ∙ ap all_on row.4 ∙ found.2) in
+              let made = mapped-is (λ t. t ++ flat w) (on u) x (sym (all_on-longer u w row.2 row.3) ∙ ap all_on row.4 ∙ found.2) in
               let t = made.0 in
               let here = in-each on t u us ts e row.2 made.1 in
               let answer : InAnswer node db env t =

@@ -8,8 +8,7 @@ ghost use Rattle.bag_algebra.specs.Rewriting.{IsRewrite};
 ghost use Rattle.bag_algebra.specs.declared.query.Query.{Query, end_of-Sublink};
 ghost use Rattle.rewrite_core.specs.rewritings.OpenSublinks.{NoOpenSublink};
 
-use crate::rewritings::exact_width;
-use bag_algebra::Query;
+use bag_algebra::{Query, exact_width};
 use contribution::regroup;
 use perm_values::{List, NoMemory};
 use std::alloc::Global;

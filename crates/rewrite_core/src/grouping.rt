@@ -9,9 +9,9 @@ ghost use Rattle.rewrite_core.specs.rewritings.KeptColumns.{pairs_of, columns_ke
 ghost use Rattle.rewrite_core.specs.rewritings.OpenSublinks.{NoOpenSublink};
 ghost use Rattle.rewrite_core.specs.SameGroups.{same_groups};
 
-use crate::rewritings::{exact_width, join_kept, sum};
-use bag_algebra::{Aggr, Expr, JoinKind, Query};
-use contribution::same_columns;
+use crate::rewritings::{join_kept, sum};
+use bag_algebra::{Aggr, Expr, Query, exact_width};
+use contribution::{outwards, same_columns};
 use perm_values::{List, NoMemory, both};
 use std::alloc::Global;
 
@@ -105,14 +105,8 @@ fn beside_class(
         drop(rewriting);
         return Err(NoMemory);
     };
+    // the row over no row stands beside NULLs
     join_kept(alloc, outwards(), plain, rewriting, same, kept, columns)
-}
-
-/// A row over no row stands beside NULLs.
-fn outwards() -> JoinKind
-    ensures { result ≡ Left }
-{
-    JoinKind::Left
 }
 
 /// Whether the first columns are the same as those at the places of the groups, counted from a place on.

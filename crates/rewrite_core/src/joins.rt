@@ -9,8 +9,8 @@ ghost use Rattle.rewrite_core.specs.rewritings.OpenSublinks.{NoOpenSublink};
 ghost use Rattle.rewrite_core.specs.JoinColumns.{own_places, added_places, IsPaired, IsLaidOut};
 
 use crate::columns::with_columns;
-use crate::rewritings::{exact_width, sum};
-use bag_algebra::{Expr, JoinKind, Query};
+use crate::rewritings::sum;
+use bag_algebra::{Expr, JoinKind, Query, exact_width};
 use contribution::{join_on, moved};
 use perm_values::{List, NoMemory};
 use std::alloc::Global;

@@ -15,7 +15,7 @@ pub use joins::join;
 pub use nodes::{distinct, filter, project};
 pub use rewritings::{
     closed_sublinks_read_no_outer_row, columns_kept,
-    distinct_rows_of_rewritings_stand_for_provenance, exact_width,
+    distinct_rows_of_rewritings_stand_for_provenance,
     queries_without_places_rewrite_as_what_stands, rewritings_stand_beside_lists,
     standing_is_reflexive_and_transitive, sum,
 };

@@ -5,8 +5,7 @@ ghost use Rattle.bag_algebra.specs.declared.query.Query.TheVariants.{Distinct, F
 ghost use Rattle.rewrite_core.specs.rewritings.OpenSublinks.{NoOpenSublink};
 ghost use Rattle.rewrite_core.specs.ProvenanceColumns.{provenance_items};
 
-use crate::rewritings::exact_width;
-use bag_algebra::{Expr, Item, Query};
+use bag_algebra::{Expr, Item, Query, exact_width};
 use contribution::{columns_at, projection, selection};
 use perm_values::{Copyable, List, NoMemory};
 use std::alloc::Global;

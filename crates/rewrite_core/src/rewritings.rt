@@ -7,8 +7,7 @@ mod unions;
 
 pub use beside::rewritings_stand_beside_lists;
 pub use kept::{
-    columns_kept, differs_from_first, exact_width, join_kept, join_on_first_columns, same_as_first,
-    sum,
+    columns_kept, differs_from_first, join_kept, join_on_first_columns, same_as_first, sum,
 };
 pub use laws::{
     closed_sublinks_read_no_outer_row, distinct_rows_of_rewritings_stand_for_provenance,

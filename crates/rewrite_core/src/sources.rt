@@ -9,8 +9,7 @@ ghost use Rattle.bag_algebra.specs.declared.query.Query.{Query};
 ghost use Rattle.rewrite_core.specs.rewritings.OpenSublinks.{NoOpenSublink};
 
 use crate::columns::with_columns;
-use crate::rewritings::exact_width;
-use bag_algebra::Query;
+use bag_algebra::{Query, exact_width};
 use perm_values::{List, NoMemory};
 use std::alloc::Global;
 

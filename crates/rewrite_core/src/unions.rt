@@ -11,8 +11,8 @@ ghost use Rattle.rewrite_core.specs.rewritings.OpenSublinks.{NoOpenSublink};
 ghost use Rattle.rewrite_core.specs.rewritings.UnionSides.{before_nulls};
 ghost use Rattle.rewrite_core.specs.UnionColumns.{items_behind, padded_behind, provenance_kinds};
 
-use crate::rewritings::{UnionSide, before_nulls, exact_width};
-use bag_algebra::{Item, Query};
+use crate::rewritings::{UnionSide, before_nulls};
+use bag_algebra::{Item, Query, exact_width};
 use contribution::{columns_at, kinds, kinds_at, null_items, projection};
 use perm_values::{Kind, List, NoMemory};
 use std::alloc::Global;

@@ -1,18 +1,15 @@
 -- What a call made for a node is made for the query that the node is.
-use Rattle.std.specs.Prelude.{⊤, OnOk, nat_lt}
+use Rattle.std.specs.Prelude.{nat_lt}
 use Rattle.std.proofs.Common.{◌≡◌, arith, false, List, [], ◌∷◌, length, Result, Ok, Err, IfOk, refl, sym, subst, true≢false}
 use Rattle.std.proofs.lemmas.Bool.Decides.{nat_tests}
 use Rattle.perm_values.specs.declared.no_memory.NoMemory.{NoMemory}
+use Rattle.perm_values.proofs.Results.{where_made}
 use Rattle.bag_algebra.specs.Kinds.{shape}
 use Rattle.bag_algebra.specs.declared.place.Place.{Place}
 use Rattle.bag_algebra.specs.declared.query.Query.{Query}
 use Rattle.rewrite_driver.proofs.ClosedNodes.{kept-without_places}
 use Rattle.rewrite_driver.specs.KeptClosed.{RewritesClosed, StandsClosed}
 use Rattle.rewrite_driver.specs.Places.{is_some_place, has_places}
-
-pub where_made : {X : Type 0} (P R : X → Type 0) (result : Result X NoMemory) → ((x : X) → P x → R x) → IfOk result P → IfOk result R
-where_made P R (Ok x) f p = f x p
-where_made P R (Err error) f p = tt
 
 pub both_made : {X : Type 0} (P Q R : X → Type 0) (result : Result X NoMemory) → IfOk result P → IfOk result Q → ((x : X) → P x → Q x → R x) → IfOk result R
 both_made P Q R (Ok x) h k f = f x h k
@@ -37,14 +34,6 @@ pub rewrites_without_places : (q : Query) (result : Result Query NoMemory) → h
 rewrites_without_places q result none given =
     where_made (λ p. StandsClosed q p) (λ p. RewritesClosed q p) result (λ p s. kept-without_places q p s (no_place (shape q) none)) given
 
-pub none_left : {X : Type 0} (xs : List X) → length xs ≡ 0 → xs ≡ []
-none_left [] e = refl
-none_left (x ∷ xs) e = absurd (omega (arith, e))
-
 pub is_some-length : (places : List Place) → (nat_lt 0 (length places)) ≡ is_some_place places
 is_some-length [] = refl
 is_some-length (place ∷ places) = grind (arith, nat_tests)
-
-pub appended : {X : Type 0} (P : List X → Type 0) (xs ys : List X) (result : Result ⊤ NoMemory) → OnOk result (ys ≡ xs) → P xs → OnOk result (P ys)
-appended P xs ys (Ok done) e p = subst P (sym e) p
-appended P xs ys (Err error) e p = tt

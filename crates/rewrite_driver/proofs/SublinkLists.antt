@@ -1,22 +1,17 @@
 -- Sublinks that stand for others, and rewritings of their queries, one more at the end.
 use Rattle.std.proofs.Common.{◌≡◌, List, [], ◌∷◌, ◌++◌, All, sym, subst}
-use Rattle.std.proofs.lemmas.List.Elements.{All-nil, All-cons, All-head, All-tail, All-push}
+use Rattle.std.proofs.lemmas.List.Elements.{All-nil, All-head, All-tail, All-push}
 use Rattle.bag_algebra.specs.Rewriting.{IsRewrite}
 use Rattle.bag_algebra.specs.declared.query.Query.{Query}
 use Rattle.bag_algebra.specs.declared.query.Sublink.{Sublink}
-use Rattle.query_laws.specs.Standing.{SubStands, SubsStand}
+use Rattle.query_facts.proofs.AlikeRows.{all-first}
+use Rattle.query_laws.specs.Standing.{SubStands}
+use Rattle.query_laws.proofs.StandingSublinks.{stand-more}
 use Rattle.rewrite_core.specs.rewritings.OpenSublinks.{IsClosedSublink, NoOpenSublink}
 use Rattle.rewrite_driver.specs.KeptClosed.{RewritesClosed, SubsStandClosed, SubsTracedClosed}
 use Rattle.rewrite_move.proofs.ClosedMoves.{traced-closed}
 use Rattle.rewrite_move.specs.Moved.{SubsTraced}
 use Rattle.rewrite_move.specs.Traced.{traced_of}
-
-stand-more : (subs others : List Sublink) (sub other : Sublink) → SubsStand subs others → SubStands sub other →
-    SubsStand (subs ++ sub ∷ []) (others ++ other ∷ [])
-stand-more [] [] sub other s t = (t, tt)
-stand-more [] (another ∷ others) sub other s t = absurd s
-stand-more (first ∷ subs) [] sub other s t = absurd s
-stand-more (first ∷ subs) (another ∷ others) sub other s t = (s.0, stand-more subs others sub other s.1 t)
 
 rewritten-more : (subs : List Sublink) (rewritings : List Query) (sub : Sublink) (p : Query) → SubsTraced subs rewritings → IsRewrite (traced_of sub) p →
     SubsTraced (subs ++ sub ∷ []) (rewritings ++ p ∷ [])
@@ -26,10 +21,6 @@ rewritten-more (first ∷ subs) [] sub p s t = absurd s
 rewritten-more (first ∷ subs) (rewriting ∷ rewritings) sub p s t = (s.0, rewritten-more subs rewritings sub p s.1 t)
 
 -- ---- without an open sublink where there was none
-
-all-first : {X : Type 0} (P : X → Type 0) (xs ys : List X) → All P (xs ++ ys) → All P xs
-all-first P [] ys h = All-nil P
-all-first P (x ∷ xs) ys h = All-cons P x xs (All-head P x (xs ++ ys) h) (all-first P xs ys (All-tail P x (xs ++ ys) h))
 
 all-last : {X : Type 0} (P : X → Type 0) (xs : List X) (x : X) → All P (xs ++ x ∷ []) → P x
 all-last P [] x h = All-head P x [] h

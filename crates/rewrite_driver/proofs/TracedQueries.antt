@@ -1,10 +1,10 @@
 -- Rewritings of what is traced of a sublink, which calls made.
 use Rattle.std.proofs.Common.{◌≡◌, Result, IfOk, sym, subst}
 use Rattle.perm_values.specs.declared.no_memory.NoMemory.{NoMemory}
+use Rattle.perm_values.proofs.Results.{where_made}
 use Rattle.bag_algebra.specs.declared.query.Query.{Query}
 use Rattle.bag_algebra.specs.declared.query.SubKind.{SubKind}
 use Rattle.bag_algebra.specs.declared.query.Sublink.{Sublink}
-use Rattle.rewrite_driver.proofs.MadeQueries.{where_made}
 use Rattle.rewrite_driver.specs.KeptClosed.{RewritesClosed}
 use Rattle.rewrite_move.specs.Traced.{below_by, below_groups, traced_of}
 

@@ -16,11 +16,11 @@ use crate::rules::{
 use crate::standing::{
     aggregate_standing, apply_standing, distinct_standing, except_standing, filter_standing,
     intersect_standing, join_standing, limit_standing, project_standing, provenance_standing,
-    table, union_standing,
+    union_standing,
 };
 use crate::sublinks::{add_rewriting, add_standing};
 use bag_algebra::{Query, SubKind, Sublink};
-use contribution::shape;
+use contribution::{shape, table};
 use perm_values::{List, NoMemory};
 use std::alloc::Global;
 

@@ -1,22 +1,14 @@
 //! Nodes over what stands for their inputs and for their sublinks' queries. They take the results of the calls that make
 //! these, so that no query is at hand where one of those calls fails.
-ghost use Rattle.std.specs.Prelude.{◌≡◌, List, IfOk};
-ghost use Rattle.bag_algebra.specs.declared.query.Query.TheVariants.{Table, Filter, Project, Join, Apply, Union, Intersect, Except, Distinct, Aggregate, Limit, Prov};
+ghost use Rattle.std.specs.Prelude.{List, IfOk};
+ghost use Rattle.bag_algebra.specs.declared.query.Query.TheVariants.{Filter, Project, Join, Apply, Union, Intersect, Except, Distinct, Aggregate, Limit, Prov};
 ghost use Rattle.bag_algebra.specs.declared.query.Query.{Query};
 ghost use Rattle.bag_algebra.specs.declared.query.Sublink.{Sublink};
 ghost use Rattle.rewrite_driver.specs.KeptClosed.{RewritesClosed, StandsClosed, SubsStandClosed};
 
 use bag_algebra::{Aggr, Expr, Item, JoinKind, Query, Sublink};
-use perm_values::{Copyable, Key, Kind, List, NoMemory, both, four, three};
+use perm_values::{Copyable, Key, List, NoMemory, both, four, three};
 use std::alloc::Global;
-
-/// The table of this identity. It fails only for want of memory.
-pub(crate) fn table(alloc: Global, id: u64, kinds: &List<Kind>) -> Result<Query, NoMemory>
-    ensures { IfOk result (λ p. p ≡ Table id kinds.now) }
-{
-    let kinds = kinds.copy(alloc)?;
-    Ok(Query::Table { id, kinds })
-}
 
 /// What stands for a Filter over what stands for its input and its sublinks. It fails where one of these failed, and for want of memory.
 pub(crate) fn filter_standing(
@@ -127,7 +119,8 @@ pub(crate) fn distinct_standing(
     alloc: Global,
     input: Result<Query, NoMemory>,
 ) -> Result<Query, NoMemory>
-    ensures { (q : Query) → IfOk input (λ b. StandsClosed q b) → IfOk result (λ p. StandsClosed (Distinct q) p) }
+    ensures { (q : Query) → IfOk input (λ b. StandsClosed q b) →
+        IfOk result (λ p. StandsClosed (Distinct q) p) }
 {
     let input = input?;
     Query::distinct(alloc, input)
@@ -166,7 +159,8 @@ pub(crate) fn provenance_standing(
     alloc: Global,
     rewriting: Result<Query, NoMemory>,
 ) -> Result<Query, NoMemory>
-    ensures { (q : Query) → IfOk rewriting (λ r. RewritesClosed q r) → IfOk result (λ p. StandsClosed (Prov q) p) }
+    ensures { (q : Query) → IfOk rewriting (λ r. RewritesClosed q r) →
+        IfOk result (λ p. StandsClosed (Prov q) p) }
 {
     let rewriting = rewriting?;
     Query::distinct(alloc, rewriting)

@@ -1,11 +1,12 @@
 //! Lists of sublinks and of rewritings of their queries, which grow by the results of calls.
-ghost use Rattle.std.specs.Prelude.{◌≡◌, ◌++◌, [], ◌∷◌, List, IfOk, OnOk};
+ghost use Rattle.std.specs.Prelude.{◌++◌, [], ◌∷◌, List, IfOk, OnOk};
 ghost use Rattle.bag_algebra.specs.declared.query.Sublink.{Sublink};
 ghost use Rattle.rewrite_driver.specs.KeptClosed.{RewritesClosed, StandsClosed, SubsStandClosed, SubsTracedClosed};
 ghost use Rattle.rewrite_move.specs.Traced.{traced_of};
 
 use bag_algebra::{Query, Sublink};
-use perm_values::{Copyable, List, NoMemory};
+use contribution::sublink_over;
+use perm_values::{List, NoMemory};
 use std::alloc::Global;
 
 /// Adds the sublink over that query.
@@ -22,23 +23,6 @@ pub(crate) fn add_standing(
     let query = query?;
     let other = sublink_over(alloc, sub, query)?;
     others.push(other)
-}
-
-/// The sublink over that query.
-fn sublink_over(alloc: Global, sub: &Sublink, query: Query) -> Result<Sublink, NoMemory>
-    ensures kind_kept { IfOk result (λ other. other.kind ≡ sub.now.kind) }
-    ensures tested_kept { IfOk result (λ other. other.tested ≡ sub.now.tested) }
-    ensures over { IfOk result (λ other. other.query ≡ query) }
-{
-    let Ok(tested) = sub.tested.copy(alloc) else {
-        drop(query);
-        return Err(NoMemory);
-    };
-    Ok(Sublink {
-        kind: sub.kind,
-        tested,
-        query,
-    })
 }
 
 /// Adds the rewriting.

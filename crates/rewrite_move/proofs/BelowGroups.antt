@@ -3,7 +3,7 @@
 use Rattle.std.proofs.Common.{◌≡◌, ℕ, suc, ◌+◌, ◌≤◌, Bool, true, false, cond, List, [], ◌++◌, map, append-nil, refl, sym, ap, ◌∙◌, subst, arith, true≢false}
 use Rattle.perm_values.specs.declared.kind.Kind.{Kind}
 use Rattle.bag_algebra.proofs.Members.{IsIn}
-use Rattle.bag_algebra.proofs.Outcomes.{mapped-is}
+use Rattle.bag_algebra.proofs.Outcomes.{mapped-is, then-is}
 use Rattle.bag_algebra.specs.Bags.{Row, Bag, once}
 use Rattle.bag_algebra.specs.built.Openings.{rows-with_lists}
 use Rattle.bag_algebra.specs.built.Patterns.{BaseOf, FilterOf, ProjectOf, JoinOf, ApplyOf, UnionOf, IntersectOf, ExceptOf, DistinctOf, AggregateOf, LimitOf, ProvOf}
@@ -11,7 +11,7 @@ use Rattle.bag_algebra.specs.Kinds.{shape, sub_shape}
 use Rattle.bag_algebra.specs.Meaning.{Database, denote, meaning, sub_denote, items_on, arguments_on}
 use Rattle.bag_algebra.specs.Means.{Means, SubMeans, Witness, all_empty, good_rows, no_subs, project_means, grouped}
 use Rattle.bag_algebra.specs.Measures.{size_of, sub_size}
-use Rattle.bag_algebra.specs.Outcome.{Outcome, Good, Bad, and_then, mapped, each}
+use Rattle.bag_algebra.specs.Outcome.{Good, and_then, mapped, each}
 use Rattle.bag_algebra.specs.Scoped.{no_subs as has_none}
 use Rattle.bag_algebra.specs.TablesRead.{EachTable}
 use Rattle.bag_algebra.specs.WellFormed.{WellFormed}
@@ -62,10 +62,6 @@ give-itself m blank = record { there = λ c g. g; back = λ c g. g }
 give-onward : {m n o : Means} {blank : Witness} → GiveAlike m n blank → GiveAlike n o blank → GiveAlike m o blank
 give-onward g h = record { there = λ c x. h.there c (g.there c x); back = λ c x. g.back c (h.back c x) }
 
-good-first : {X Y : Type 0} (o : Outcome X) (next : X → Outcome Y) (y : Y) → and_then o next ≡ Good y → (x : X) × (o ≡ Good x) × (next x ≡ Good y)
-good-first (Good x) next y e = (x, refl, e)
-good-first (Bad faults) next y e = absurd (cc e)
-
 -- what a query that is good gives, and what is good below it
 pub record Below (q p : Query) (db : Database) (env : List Row) : Type 0 where
   pub bag : Bag
@@ -108,7 +104,7 @@ module _ (db : Database) (env : List Row) where
         let without : sub_denote subs db env ≡ no_subs = none-denote subs db env e in
         let is : denote (ProjectOf input items form subs) db env ≡ project_means (items_on items env no_subs) (λ u. []) (denote input db env) =
         ap (λ (s : SubMeans). project_means (items_on items env s) s.contributions (denote input db env)) without in
-        let first = good-first (meaning input db env) (each (items_on items env no_subs)) bag
+        let first = then-is (meaning input db env) (each (items_on items env no_subs)) bag
         (sym (rows-with_lists (and_then (meaning input db env) (each (items_on items env no_subs))) _) ∙ ap (λ (m : Means). m.rows) (sym is) ∙ good) in
         node-below (ProjectOf input items form subs) input (below_groups input)
         (ap (λ places. shape input ++ places) (none-shape subs e) ∙ append-nil (shape input))
@@ -123,7 +119,7 @@ module _ (db : Database) (env : List Row) where
   lists-below (AggregateOf input groups aggregates) bag good =
       let functions = map (λ (aggregate : Aggr). aggregate.function) aggregates in
       let arguments = arguments_on aggregates env in
-      let first = good-first (meaning input db env) (grouped groups functions arguments) bag
+      let first = then-is (meaning input db env) (grouped groups functions arguments) bag
       (sym (rows-with_lists (and_then (meaning input db env) (grouped groups functions arguments)) _) ∙ good) in
       node-below (AggregateOf input groups aggregates) input (below_groups input) refl
       (groups-give (denote input db env) (all_empty (shape input)) first.0 first.1 (within input first.0 first.1) groups functions arguments bag first.2)

@@ -1,5 +1,5 @@
 -- A sublink of whose query every row contributes has the contributions of an EXISTS over what stands below the groups of its query.
-use Rattle.std.proofs.Common.{◌≡◌, List, ◌∷◌, None, refl, sym, ap, subst}
+use Rattle.std.proofs.Common.{◌≡◌, List, ◌∷◌, refl, sym, ap, subst}
 use Rattle.std.specs.Prelude.{◌↔◌}
 use Rattle.null_logic.specs.declared.compare.Compare.{Compare}
 use Rattle.perm_values.specs.declared.value.Value.{Value}
@@ -13,12 +13,12 @@ use Rattle.bag_algebra.specs.Kinds.{shape}
 use Rattle.bag_algebra.specs.Meaning.{Database, denote, meaning, witnesses, optional_value}
 use Rattle.bag_algebra.specs.Means.{Witness, all_empty, good_rows, is_some_row, sub_value}
 use Rattle.bag_algebra.specs.Outcome.{Good, both_then}
-use Rattle.bag_algebra.specs.declared.query.Query.{Query}
 use Rattle.bag_algebra.specs.declared.query.SubKind.{SubKind}
 use Rattle.bag_algebra.specs.declared.query.SubKind.TheVariants.{Exists, Any, All, Scalar}
 use Rattle.bag_algebra.specs.declared.query.Sublink.{Sublink}
 use Rattle.contribution.proofs.ListedRows.{only_rows}
 use Rattle.query_laws.specs.SublinkLists.{Contributes, by_row, by_no_row}
+use Rattle.rewrite_sublink.specs.Candidates.{exists_in}
 use Rattle.rewrite_move.proofs.BelowGroups.{Below, lists-below, shape-below}
 use Rattle.rewrite_move.proofs.GivenLists.{Given, of_row, of_none}
 use Rattle.rewrite_move.specs.Traced.{below_groups, traced_by, traced_sub}
@@ -51,9 +51,6 @@ pub contributes-given : (db : Database) (env : List Row) (b : Row) (sub : Sublin
 contributes-given db env b sub c (by_row x bag v operand good chosen list) = of_row v (in-from_contains c (witnesses sub.query db (b ∷ env) v) list)
 contributes-given db env b sub c (by_no_row good empty) = of_none good empty
 
-abbrev existing : Query → Sublink
-existing q = record { kind = Exists; tested = None; query = q }
-
 module _ (db : Database) (env : List Row) (b : Row) (sub : Sublink) (chooses : ChoosesAll sub.kind) (v : Value) (has : sublink_value db env b sub ≡ Good v) where
   parts : (x : Value) × (bag : Bag) × (optional_value sub.tested env b ≡ Good x) × (meaning sub.query db (b ∷ env) ≡ Good bag)
   parts = both_then-parts (optional_value sub.tested env b) (meaning sub.query db (b ∷ env)) (sub_value sub.kind) v has
@@ -61,22 +58,22 @@ module _ (db : Database) (env : List Row) (b : Row) (sub : Sublink) (chooses : C
   below : Below sub.query (below_groups sub.query) db (b ∷ env)
   below = lists-below db (b ∷ env) sub.query parts.1 parts.3
 
-  pub below-value : (w : Value) × (sublink_value db env b (existing (below_groups sub.query)) ≡ Good w)
+  pub below-value : (w : Value) × (sublink_value db env b (exists_in (below_groups sub.query)) ≡ Good w)
   below-value = (Boolean (is_some_row below.bag), ap (λ o. both_then (Good Null) o (sub_value Exists)) below.good)
 
-  there : (c : Witness) → Contributes db env b sub c → Contributes db env b (existing (below_groups sub.query)) c
+  there : (c : Witness) → Contributes db env b sub c → Contributes db env b (exists_in (below_groups sub.query)) c
   there c h =
-      given-contributes db env b (existing (below_groups sub.query)) exists-all Null below.bag refl below.good c
+      given-contributes db env b (exists_in (below_groups sub.query)) exists-all Null below.bag refl below.good c
       (subst (λ places. Given (denote (below_groups sub.query) db (b ∷ env)) (all_empty places) c) (sym (shape-below sub.query))
       (below.alike.there c (contributes-given db env b sub c h)))
 
-  back : (c : Witness) → Contributes db env b (existing (below_groups sub.query)) c → Contributes db env b sub c
+  back : (c : Witness) → Contributes db env b (exists_in (below_groups sub.query)) c → Contributes db env b sub c
   back c h =
       given-contributes db env b sub chooses parts.0 parts.1 parts.2 parts.3 c
       (below.alike.back c (subst (λ places. Given (denote (below_groups sub.query) db (b ∷ env)) (all_empty places) c) (shape-below sub.query)
-      (contributes-given db env b (existing (below_groups sub.query)) c h)))
+      (contributes-given db env b (exists_in (below_groups sub.query)) c h)))
 
-  pub below-contributes : (c : Witness) → Contributes db env b sub c ↔ Contributes db env b (existing (below_groups sub.query)) c
+  pub below-contributes : (c : Witness) → Contributes db env b sub c ↔ Contributes db env b (exists_in (below_groups sub.query)) c
   below-contributes c = (there c, back c)
 
 -- ---- of any kind

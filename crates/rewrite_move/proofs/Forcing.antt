@@ -2,16 +2,17 @@
 use Rattle.std.proofs.Common.{◌≡◌, ◌≢◌, ◌⊎◌, inl, inr, ℕ, suc, ◌+◌, Bool, true, false, cond, ◌==◌, List, [], ◌∷◌, Option, Some, None, refl, sym, ap, ◌∙◌, subst, arith}
 use Rattle.std.specs.Prelude.{⊤}
 use Rattle.std.proofs.lemmas.Bool.Decides.{eqb_tells}
-use Rattle.null_logic.specs.Comparison.{is_null}
 use Rattle.null_logic.specs.Logic.{truth_and, truth_or, truth_not, truth_of, value_of, is_true, known}
 use Rattle.null_logic.specs.declared.operator.Operator.{Operator}
 use Rattle.null_logic.specs.declared.operator.Operator.TheVariants as op
 use Rattle.null_logic.specs.declared.truth.Truth.{Truth}
 use Rattle.null_logic.specs.declared.truth.Truth.TheVariants.{True, False, Unknown}
 use Rattle.perm_values.specs.Rows.{value_at}
+use Rattle.perm_values.specs.Values.{is_null}
 use Rattle.perm_values.specs.declared.value.Value.{Value}
 use Rattle.perm_values.specs.declared.value.Value.TheVariants.{Boolean}
-use Rattle.bag_algebra.proofs.Outcomes.{both-is, mapped-is, same_good}
+use Rattle.bag_algebra.proofs.Outcomes.{both-is, mapped-is, same_good, then-is}
+use Rattle.bag_algebra.proofs.TruthValues.{truth_of-value}
 use Rattle.bag_algebra.specs.Bags.{Row}
 use Rattle.bag_algebra.specs.built.Patterns.{OpOf, ChainOf, CaseOf, IsNullOf, IsTruthOf, SameOf}
 use Rattle.bag_algebra.specs.Children.{subs_denote}
@@ -65,16 +66,11 @@ parts-false : (vs : List Value) → is_true (truth_not (some_true vs)) ≡ true 
 parts-false [] e = tt
 parts-false (v ∷ vs) e = let parts = both-false (truth_of v) (some_true vs) e in (parts.0, parts-false vs parts.1)
 
-of_value : (t : Truth) → truth_of (value_of t) ≡ t
-of_value True = refl
-of_value False = refl
-of_value Unknown = refl
-
 true-of : (t : Truth) (v : Value) → value_of t ≡ v → has_truth True v ≡ true → is_true t ≡ true
-true-of t v is h = ap is_true (sym (of_value t) ∙ ap truth_of is) ∙ h
+true-of t v is h = ap is_true (sym (truth_of-value t) ∙ ap truth_of is) ∙ h
 
 false-of : (t : Truth) (v : Value) → value_of t ≡ v → has_truth False v ≡ true → is_true (truth_not t) ≡ true
-false-of t v is h = ap (λ t. is_true (truth_not t)) (sym (of_value t) ∙ ap truth_of is) ∙ h
+false-of t v is h = ap (λ t. is_true (truth_not t)) (sym (truth_of-value t) ∙ ap truth_of is) ∙ h
 
 not-has : (truth t : Truth) (a : Value) → truth_of a ≡ t → has_truth truth (value_of (truth_not t)) ≡ true → has_truth (truth_not truth) a ≡ true
 not-has True True a e h = absurd (cc h)
@@ -141,10 +137,6 @@ own-has told number at answers v e h = by_number (eqb_tells number at) where
   by_number (inl same) =
       subst (λ b. HasTruth (cond b told None) (value_at answers at)) (sym same.0) (subst (HasTruth told) (sym e ∙ ap (value_at answers) same.1) h)
   by_number (inr other) = subst (λ b. HasTruth (cond b told None) (value_at answers at)) (sym other.0) tt
-
-then-is : {X Y : Type 0} (o : Outcome X) (next : X → Outcome Y) (y : Y) → and_then o next ≡ Good y → (x : X) × (o ≡ Good x) × (next x ≡ Good y)
-then-is (Good x) next y e = (x, refl, e)
-then-is (Bad faults) next y e = absurd (cc e)
 
 module _ (u : Row) (env : List Row) (answers : List Value) (at : ℕ) where
   mutual

@@ -1,11 +1,12 @@
 -- The lists that a query gives, whatever its rows are: projections, DISTINCT and groups give those of their inputs.
-use Rattle.std.proofs.Common.{◌≡◌, ℕ, inl, inr, List, [], ◌∷◌, ◌++◌, map, filter, take, length, refl, sym, ap, ◌∙◌, subst, arith}
+use Rattle.std.proofs.Common.{◌≡◌, ℕ, inl, inr, List, [], ◌∷◌, ◌++◌, map, filter, take, length, refl, sym, ap, ◌∙◌, subst}
+use Rattle.std.proofs.lemmas.List.{nil_from_length}
 use Rattle.std.specs.List.{flat_map}
 use Rattle.perm_values.specs.Rows.{same_row, picked}
 use Rattle.perm_values.specs.ValueLaws.{row_decides}
 use Rattle.bag_algebra.proofs.Columns.{in-with_lists, from-with_lists}
 use Rattle.bag_algebra.proofs.Members.{IsIn, in-map, in-flat_map, from-flat_map, in-filter}
-use Rattle.bag_algebra.proofs.Outcomes.{both-is, mapped-is, same_good}
+use Rattle.bag_algebra.proofs.Outcomes.{both-is, mapped-is, same_good, each-long}
 use Rattle.bag_algebra.specs.Bags.{Row, Bag, once}
 use Rattle.bag_algebra.specs.Means.{Means, Witness, with_lists, gives, good_row, good_rows, project_means, distinct_means, aggregate_means, aggregates_of, class_keys, class_of, class_row, class_lists, grouped}
 use Rattle.bag_algebra.specs.Outcome.{Outcome, Good, Bad, and_then, mapped, each}
@@ -13,7 +14,7 @@ use Rattle.bag_algebra.specs.declared.query.AggFn.{AggFn}
 use Rattle.contribution.proofs.BagMembers.{in-once}
 use Rattle.contribution.proofs.Classes.{take-picked}
 use Rattle.contribution.proofs.NoRowLost.{gives-good}
-use Rattle.query_laws.proofs.Items.{each-in, each-long}
+use Rattle.query_laws.proofs.Items.{each-in}
 
 -- a list of some row, or the all-empty one where there is no row
 pub data Given (m : Means) (blank c : Witness) : Type 0 where
@@ -26,10 +27,6 @@ pub record GiveAlike (m n : Means) (blank : Witness) : Type 0 where
   pub back : (c : Witness) → Given n blank c → Given m blank c
 
 -- ---- lists
-
-no-rows : {X : Type 0} (xs : List X) → length xs ≡ 0 → xs ≡ []
-no-rows [] e = refl
-no-rows (x ∷ xs) e = absurd (omega (arith, e))
 
 some-item : {X Y : Type 0} (f : X → Outcome Y) (xs : List X) (ys : List Y) (x : X) → each f xs ≡ Good ys → IsIn x xs → (y : Y) × (f x ≡ Good y)
 some-item f [] ys x e h = absurd h
@@ -82,7 +79,7 @@ module _ (m : Means) (blank : Witness) (us : Bag) (input : m.rows ≡ Good us) (
         let origin = from-flat_map (λ u. m.lists u) c (filter (λ u. gives t (items u)) us) (listed-from projected bag made_from projected-is t c h) in
         of_row origin.0 origin.2
     projected-there c (of_none e b) =
-        of_none (input ∙ ap Good (no-rows us (sym (each-long items us bag good) ∙ ap length (no-row projected bag made_from projected-is e)))) b
+        of_none (input ∙ ap Good (nil_from_length us (sym (each-long items us bag good) ∙ ap length (no-row projected bag made_from projected-is e)))) b
 
     projected-back : (c : Witness) → Given m blank c → Given projected blank c
     projected-back c (of_row u h) =
@@ -91,7 +88,7 @@ module _ (m : Means) (blank : Witness) (us : Bag) (input : m.rows ≡ Good us) (
         (in-flat_map (λ u. m.lists u) c u (filter (λ u. gives found.0 (items u)) us)
         (in-filter (λ u. gives found.0 (items u)) u us (within u c h) (gives-good found.0 (items u) found.1)) h))
     projected-back c (of_none e b) =
-        of_none (none-there projected bag made_from projected-is (no-rows bag (each-long items us bag good ∙ ap length (same_good us [] (sym input ∙ e))))) b
+        of_none (none-there projected bag made_from projected-is (nil_from_length bag (each-long items us bag good ∙ ap length (same_good us [] (sym input ∙ e))))) b
 
     pub projection-gives : GiveAlike projected m blank
     projection-gives = record { there = projected-there; back = projected-back }
@@ -182,7 +179,7 @@ module _ (m : Means) (blank : Witness) (us : Bag) (input : m.rows ≡ Good us) (
         (subst (λ rows. IsIn c (class_lists groups blank m rows row.0)) (sym none) (inl b)))
     no-class c none b (key ∷ keys) is =
         of_none (none-there groups_of bag (class_lists groups blank m us) groups-are
-        (no-rows bag (each-long (class_row groups functions arguments us) (class_keys groups us) bag classes-good ∙ (λ i. length (class_keys (is i) (none i)))))) b
+        (nil_from_length bag (each-long (class_row groups functions arguments us) (class_keys groups us) bag classes-good ∙ (λ i. length (class_keys (is i) (none i)))))) b
 
     groups-back : (c : Witness) → Given m blank c → Given groups_of blank c
     groups-back c (of_row u h) =

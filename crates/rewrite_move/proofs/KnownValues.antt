@@ -1,12 +1,13 @@
 -- Sublinks of which a truth is known on the rows: which rows of their queries contribute.
 use Rattle.std.proofs.Common.{◌≡◌, Bool, true, false, not, ◌||◌, List, [], ◌∷◌, Option, Some, refl, sym, ap, ◌∙◌, subst}
-use Rattle.null_logic.specs.Comparison.{is_null}
 use Rattle.null_logic.specs.Logic.{is_true, truth_not, truth_of, value_of}
 use Rattle.null_logic.specs.declared.truth.Truth.{Truth}
 use Rattle.null_logic.specs.declared.truth.Truth.TheVariants.{True, False, Unknown}
+use Rattle.perm_values.specs.Values.{is_null}
 use Rattle.perm_values.specs.declared.kind.Kind.{Kind}
 use Rattle.perm_values.specs.declared.value.Value.{Value}
 use Rattle.bag_algebra.proofs.Outcomes.{same_good}
+use Rattle.bag_algebra.proofs.TruthValues.{truth_of-value}
 use Rattle.bag_algebra.specs.Bags.{Row}
 use Rattle.bag_algebra.specs.Children.{sublink_value}
 use Rattle.bag_algebra.specs.Expressions.{has_truth}
@@ -60,16 +61,11 @@ truth-is Unknown True v e h = absurd (cc h)
 truth-is Unknown False v e h = absurd (cc h)
 truth-is Unknown Unknown v e h = refl
 
-of_value : (t : Truth) → truth_of (value_of t) ≡ t
-of_value True = refl
-of_value False = refl
-of_value Unknown = refl
-
 -- a value has the truths that its truth has
 pub by_truth : (truth : Truth) (v : Value) → has_truth truth v ≡ has_truth truth (value_of (truth_of v))
-by_truth True v = ap is_true (sym (of_value (truth_of v)))
-by_truth False v = ap (λ t. is_true (truth_not t)) (sym (of_value (truth_of v)))
-by_truth Unknown v = ap (λ t. is_null (value_of t)) (sym (of_value (truth_of v)))
+by_truth True v = ap is_true (sym (truth_of-value (truth_of v)))
+by_truth False v = ap (λ t. is_true (truth_not t)) (sym (truth_of-value (truth_of v)))
+by_truth Unknown v = ap (λ t. is_null (value_of t)) (sym (truth_of-value (truth_of v)))
 
 -- of a value with one truth each other one is known
 pub told_by : (truth other : Truth) (v : Value) → has_truth truth v ≡ true → has_truth other (value_of truth) ≡ has_truth other v

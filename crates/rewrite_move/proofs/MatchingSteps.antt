@@ -13,6 +13,7 @@ use Rattle.perm_values.specs.declared.kind.Kind.{Kind}
 use Rattle.perm_values.specs.declared.kind.Kind.TheVariants as kind
 use Rattle.perm_values.specs.declared.value.Value.{Value}
 use Rattle.perm_values.specs.declared.value.Value.TheVariants.{Null}
+use Rattle.perm_values.proofs.Steps.{by}
 use Rattle.bag_algebra.proofs.Members.{IsIn}
 use Rattle.bag_algebra.proofs.TablesRead.{reads_among-each}
 use Rattle.bag_algebra.specs.Bags.{Row, Bag}
@@ -53,7 +54,7 @@ use Rattle.rewrite_core.proofs.Places.{within-range}
 use Rattle.rewrite_core.specs.rewritings.KeptColumns.{kept_places}
 use Rattle.rewrite_move.proofs.KnownValues.{KnownValue, known-has, matching-chosen_of}
 use Rattle.rewrite_move.specs.Moved.{matching_beside, matching_provenance, operand_item, with_operand}
-use Rattle.rewrite_sublink.proofs.LongerRows.{by, names-begin, subs-named}
+use Rattle.rewrite_sublink.proofs.LongerRows.{names-begin, subs-named}
 use Rattle.rewrite_sublink.proofs.MatchingRows.{gather-kept}
 use Rattle.rewrite_sublink.proofs.ProjectRows.{beside_row-kinds, beside_row-value, columns-formed}
 use Rattle.rewrite_sublink.proofs.Steps.{SubsFitting, HasValue, StepGiven}

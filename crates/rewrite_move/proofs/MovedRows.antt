@@ -1,10 +1,10 @@
 -- What is made of rows for one sublink is like the dependent join of rows that they are like; and for one sublink after another.
 use Rattle.std.proofs.Common.{◌≡◌, ℕ, zero, suc, ◌+◌, ◌<◌, ◌≤◌, ◌&&◌, true, List, [], ◌∷◌, map, length, drop, get_or, Option, Some, None, Result, Ok, Err, IfOk, refl, sym, ap, ◌∙◌, subst, arith}
-use Rattle.std.proofs.Math.Seq.{drop-cons}
 use Rattle.std.proofs.lemmas.List.{drop_all}
 use Rattle.null_logic.specs.declared.truth.Truth.{Truth}
 use Rattle.perm_values.specs.declared.kind.Kind.{Kind}
 use Rattle.perm_values.specs.declared.no_memory.NoMemory.{NoMemory}
+use Rattle.perm_values.proofs.Lists.{dropped}
 use Rattle.bag_algebra.proofs.Truths.{and_true}
 use Rattle.bag_algebra.specs.Kinds.{width_of}
 use Rattle.bag_algebra.specs.Rewriting.{IsRewrite, is_plain}
@@ -73,11 +73,6 @@ module _ (whole rows : Query) (l : Like whole rows) (r : Query) (plain : is_plai
 
 -- ---- one after another
 
-opened : {X : Type 0} (xs : List X) (at : ℕ) (x : X) → at < length xs → x ≡ get_or xs at x → drop at xs ≡ x ∷ drop (at + 1) xs
-opened xs at x within e =
-    let next : suc at ≡ at + 1 = omega arith in
-    drop-cons xs at x within ∙ (λ i. sym e i ∷ drop (next i) xs)
-
 -- what a loop has so far: rows like those of the sublinks before, of which the others make the whole
 pub record SoFar (condition : Expr) (rows whole : Query) (subs standing : List Sublink) (rewritings : List Query) (at : ℕ) : Type 0 where
   pub reached : Query
@@ -102,7 +97,7 @@ so_far-next condition rows whole next subs standing rewritings at sub stand rewr
       like = step so.reached so.like;
       same =
           ap (λ n. all_moved condition n reached (drop (at + 1) subs) (drop (at + 1) standing) (drop (at + 1) rewritings)) (sym following)
-          ∙ sym (λ i. all_moved condition at so.reached (opened subs at sub h e i) (opened standing at stand g f i) (opened rewritings at rewriting k d i))
+          ∙ sym (λ i. all_moved condition at so.reached (dropped subs at sub h e i) (dropped standing at stand g f i) (dropped rewritings at rewriting k d i))
           ∙ so.same;
     }
 
@@ -161,8 +156,3 @@ module _ (whole : Query) (stand : Sublink) (r p : Query) where
   pub contributed-chosen : (choice : Choice) (operand : Expr) → choice_of stand.kind ≡ Some choice → stand.tested ≡ Some operand → Like (chosen_beside choice operand whole stand r) p →
       Like (contributed whole stand r) p
   contributed-chosen choice operand e t l = subst (λ q. Like q p) (sym (λ i. contributed_by (e i) (t i) whole stand r)) l
-
--- what holds of the value of a call holds further
-pub kept_ok : {X : Type 0} (P Q : X → Type 0) (result : Result X NoMemory) → ((x : X) → P x → Q x) → IfOk result P → IfOk result Q
-kept_ok P Q (Ok x) keep h = keep x h
-kept_ok P Q (Err error) keep h = tt

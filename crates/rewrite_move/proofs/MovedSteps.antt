@@ -6,6 +6,7 @@ use Rattle.null_logic.specs.declared.truth.Truth.{Truth}
 use Rattle.null_logic.specs.declared.truth.Truth.TheVariants.{True, False, Unknown}
 use Rattle.perm_values.specs.declared.kind.Kind.{Kind}
 use Rattle.perm_values.specs.declared.value.Value.{Value}
+use Rattle.perm_values.proofs.Steps.{by}
 use Rattle.bag_algebra.proofs.Outcomes.{both-is}
 use Rattle.bag_algebra.specs.Bags.{Row}
 use Rattle.bag_algebra.specs.built.Forms.{AllSubsForm, SubsForm-row_of_subs}
@@ -50,13 +51,9 @@ use Rattle.rewrite_move.specs.declared.share.Share.TheVariants.{AllRows, Matchin
 use Rattle.rewrite_move.specs.Traced.{below_by, below_groups, traced_by, traced_of}
 use Rattle.rewrite_sublink.proofs.AllSublinks.{Splits, no_step, one_step_given}
 use Rattle.rewrite_sublink.proofs.FilterRows.{rewrite-Filter_given}
-use Rattle.rewrite_sublink.proofs.LongerRows.{by}
 use Rattle.rewrite_sublink.proofs.ProjectRows.{rewrite-Project_with}
 use Rattle.rewrite_sublink.proofs.Steps.{SubsFitting, OnRows, Step, StepGiven, Steps, StepsGiven}
-use Rattle.rewrite_sublink.specs.Candidates.{answer_columns, beside_row}
-
-abbrev existing : Query → Sublink
-existing q = record { kind = Exists; tested = None; query = q }
+use Rattle.rewrite_sublink.specs.Candidates.{answer_columns, beside_row, exists_in}
 
 -- without a left operand nothing is compared
 contributed-untested : (choice : Option Choice) (rows : Query) (stand : Sublink) (r : Query) → contributed_by choice None rows stand r ≡ all_beside rows stand r
@@ -73,10 +70,10 @@ module _ (sub stand : Sublink) (r : Query) (s : SubStands sub stand) (rewritten 
   of_kind : (kind : SubKind) → sub.kind ≡ kind → IsRewrite (below_by kind sub.query) r
   of_kind kind e = subst (λ k. IsRewrite (below_by k sub.query) r) e rewritten
 
-  below_step : (kind : SubKind) → sub.kind ≡ kind → traced_by kind sub ≡ existing (below_groups sub.query) → IsRewrite (below_groups sub.query) r → Step sub below_rows
+  below_step : (kind : SubKind) → sub.kind ≡ kind → traced_by kind sub ≡ exists_in (below_groups sub.query) → IsRewrite (below_groups sub.query) r → Step sub below_rows
   below_step kind e traced below =
       traced-step sub below_rows
-      (subst (λ other. Step other below_rows) (sym (ap (λ k. traced_by k sub) e ∙ traced)) (plain_step (existing (below_groups sub.query)) r refl below))
+      (subst (λ other. Step other below_rows) (sym (ap (λ k. traced_by k sub) e ∙ traced)) (plain_step (exists_in (below_groups sub.query)) r refl below))
 
   -- ---- EXISTS
 

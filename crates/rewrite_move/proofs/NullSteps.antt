@@ -6,6 +6,7 @@ use Rattle.std.specs.List.{range_with_len}
 use Rattle.null_logic.specs.declared.truth.Truth.TheVariants.{False}
 use Rattle.perm_values.specs.declared.kind.Kind.{Kind}
 use Rattle.perm_values.specs.declared.value.Value.TheVariants.{Boolean}
+use Rattle.perm_values.proofs.Steps.{by}
 use Rattle.bag_algebra.proofs.Members.{IsIn, in-map, from-map, in-member, member-in}
 use Rattle.bag_algebra.proofs.Outcomes.{same_good}
 use Rattle.bag_algebra.specs.Bags.{Row, Bag, nulls}
@@ -32,7 +33,7 @@ use Rattle.rewrite_core.proofs.KeptRows.{flat-all_empty, row-width}
 use Rattle.rewrite_core.proofs.Places.{within-range}
 use Rattle.rewrite_move.proofs.KnownValues.{KnownValue, known-has, value-is}
 use Rattle.rewrite_move.specs.Moved.{beside_nulls}
-use Rattle.rewrite_sublink.proofs.LongerRows.{by, row-begun}
+use Rattle.rewrite_sublink.proofs.LongerRows.{row-begun}
 use Rattle.rewrite_sublink.proofs.ProjectRows.{beside_row-kinds, beside_row-value, columns-formed}
 use Rattle.rewrite_sublink.proofs.Steps.{SubsFitting, Begun, Extended, Reached, StepGiven}
 use Rattle.rewrite_sublink.proofs.SublinkRows as under

@@ -14,13 +14,13 @@ use crate::below::traced;
 use crate::forced::forces;
 use crate::known::{beside_matching, beside_nothing};
 use crate::share::{Share, share_of};
-use bag_algebra::{Expr, Query, Sublink};
+use bag_algebra::{Expr, Query, Sublink, exact_width};
 use contribution::always;
 use lateral_rewrite::{Choice, choice_of, chosen_provenance, valued};
 use null_logic::Truth;
 use perm_values::{Copyable, NoMemory};
 use query_laws::beside;
-use rewrite_core::{columns_kept, exact_width};
+use rewrite_core::columns_kept;
 use std::alloc::Global;
 
 /// The rows, and for each sublink in turn its contributions, from a rewriting of what is traced for it. The condition is true of each
@@ -36,7 +36,8 @@ pub(crate) fn with_contributions(
     requires plain { Like rows rows }
     requires standing { SubsStand subs.now standing.now }
     requires traced { SubsTraced subs.now rewritings.now }
-    ensures { IfOk result (λ p. Like (all_moved condition.now 0 rows subs.now standing.now rewritings.now) p) }
+    ensures { IfOk result (λ p.
+        Like (all_moved condition.now 0 rows subs.now standing.now rewritings.now) p) }
 {
     let mut whole = rows;
     for at in 0..subs.len() {

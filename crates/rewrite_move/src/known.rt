@@ -9,12 +9,12 @@ ghost use Rattle.lateral_rewrite.specs.Dependent.{compared};
 ghost use Rattle.rewrite_sublink.specs.Candidates.{beside_row};
 ghost use Rattle.rewrite_move.specs.Moved.{Like, beside_nulls, matching_beside, matching_provenance, operand_item, provenance_kinds, with_operand};
 
-use bag_algebra::{Expr, Item, Query, Sublink};
+use bag_algebra::{Expr, Item, Query, Sublink, exact_width};
 use contribution::{kind_or_text, kinds, kinds_at, null_items, selection};
 use lateral_rewrite::{Choice, compared};
 use perm_values::{Copyable, Kind, List, NoMemory};
 use query_laws::beside;
-use rewrite_core::{columns_kept, exact_width};
+use rewrite_core::columns_kept;
 use rewrite_sublink::beside_row;
 use std::alloc::Global;
 
@@ -143,7 +143,8 @@ fn columns_and_operand(
     standing: &Sublink,
     operand: &Expr,
 ) -> Result<List<Item>, NoMemory>
-    ensures { IfOk result (λ items. items ≡ beside_row rows.now (operand_item standing.now operand.now ∷ [])) }
+    ensures { IfOk result (λ items. items
+        ≡ beside_row rows.now (operand_item standing.now operand.now ∷ [])) }
 {
     let mut last = List::new(alloc);
     last.push(operand_item(alloc, standing, operand)?)?;

@@ -7,9 +7,8 @@ ghost use Rattle.rewrite_core.specs.rewritings.OpenSublinks.{IsClosedSublink, No
 ghost use Rattle.rewrite_move.specs.Moved.{SubsTraced};
 
 use crate::contributions::{with_all_contributions, with_contributions};
-use bag_algebra::{Expr, Item, Query, Sublink};
+use bag_algebra::{Expr, Item, Query, Sublink, exact_width};
 use perm_values::{List, NoMemory};
-use rewrite_core::exact_width;
 use rewrite_sublink::{answer_columns, own_items, own_rows};
 use std::alloc::Global;
 

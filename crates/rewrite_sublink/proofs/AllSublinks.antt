@@ -1,5 +1,5 @@
 -- A step of each sublink of a node, one after another.
-use Rattle.std.proofs.Common.{◌≡◌, true, List, [], ◌∷◌, ◌++◌, append_assoc, append-nil, refl, sym, ap, ◌∙◌, subst}
+use Rattle.std.proofs.Common.{◌≡◌, true, List, [], ◌∷◌, ◌++◌, append_assoc, append-nil, sym, ap, ◌∙◌, subst}
 use Rattle.perm_values.specs.declared.kind.Kind.{Kind}
 use Rattle.bag_algebra.proofs.Members.{IsIn}
 use Rattle.bag_algebra.proofs.Outcomes.{both-is}
@@ -14,13 +14,11 @@ use Rattle.bag_algebra.specs.Means.{Witness, flat}
 use Rattle.bag_algebra.specs.declared.query.Query.{Query}
 use Rattle.bag_algebra.specs.declared.query.Sublink.{Sublink}
 use Rattle.query_laws.specs.SublinkLists.{Contributes, EachContributes, no_sublink, one_more}
+use Rattle.rewrite_core.proofs.Unlinked.{none-contribute}
 use Rattle.rewrite_sublink.proofs.LongerRows.{flat-behind, row-begun, values-longer, contributes-longer, contributes-shorter}
 use Rattle.rewrite_sublink.proofs.Steps.{SubsFitting, Begun, HasValue, HasValues, Extended, OnRows, Reached, Step, StepGiven, Steps, StepsGiven}
 
 -- ---- no sublink
-
-none-contribute : {db : Database} {env : List Row} {b : Row} {w : Witness} → EachContributes db env b [] w → [] ≡ w
-none-contribute no_sublink = refl
 
 nothing-extended : (db : Database) (env : List Row) (us : Bag) → Extended (λ b w. EachContributes db env b [] w) us us
 nothing-extended db env us = record {

@@ -14,7 +14,8 @@ use Rattle.bag_algebra.specs.Kinds.{place_kinds}
 use Rattle.bag_algebra.specs.Means.{Witness, flat, all_empty, cell, is_some_row}
 use Rattle.bag_algebra.specs.declared.place.Place.{Place}
 use Rattle.contribution.proofs.SetsOfNodes.{any_in, from_any}
-use Rattle.rewrite_core.proofs.KeptRows.{nulls-of_rewriting, length-nulls, blank-width}
+use Rattle.query_laws.proofs.Joined.{length-nulls}
+use Rattle.rewrite_core.proofs.KeptRows.{nulls-of_rewriting, blank-width}
 use Rattle.rewrite_core.proofs.Places.{at-between}
 use Rattle.rewrite_core.specs.rewritings.Rewritten.{Beside}
 

@@ -5,6 +5,7 @@ use Rattle.std.proofs.lemmas.Bool.{and_from}
 use Rattle.null_logic.specs.declared.truth.Truth.{Truth}
 use Rattle.perm_values.specs.declared.kind.Kind.{Kind}
 use Rattle.perm_values.specs.declared.kind.Kind.TheVariants as kind
+use Rattle.perm_values.proofs.Steps.{by}
 use Rattle.bag_algebra.specs.Bags.{Row}
 use Rattle.bag_algebra.specs.built.Openings.{Case-is, IsTruth-is, kinds_of-Filter, meaning-Filter}
 use Rattle.bag_algebra.specs.built.Forms.{AllSubsForm, EachTableOfSubs, subs_kinds, WellFormed-Filter, EachTable-Filter, arms_have-built, number_of_arms-built}
@@ -33,7 +34,7 @@ use Rattle.contribution.proofs.ColumnQueries.{all-first, all-nothing, formed-col
 use Rattle.contribution.proofs.NodeQueries.{meaning-pairs, formed-pairs, plain-pairs, plain-chosen, plain-projected}
 use Rattle.bag_algebra.specs.ColumnItems.{column_items}
 use Rattle.query_laws.proofs.SameExpressions.{tested-formed}
-use Rattle.rewrite_sublink.proofs.LongerRows.{by, names-begin, subs-named}
+use Rattle.rewrite_sublink.proofs.LongerRows.{names-begin, subs-named}
 use Rattle.rewrite_sublink.proofs.MatchingRows.{formed-matching}
 use Rattle.rewrite_sublink.proofs.Ready.{Ready, stand_of, base_of}
 use Rattle.rewrite_sublink.specs.Candidates.{matching, or_nulls, same_as_outer, first_column, deciding, deciding_arm, test_condition, test_subs, contributed}

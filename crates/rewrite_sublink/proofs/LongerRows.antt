@@ -2,6 +2,7 @@
 use Rattle.std.proofs.Common.{◌≡◌, true, List, [], ◌∷◌, ◌++◌, append_assoc, refl, sym, ap, ◌∙◌, subst}
 use Rattle.std.proofs.lemmas.Bool.{and_from, and_parts}
 use Rattle.perm_values.specs.declared.kind.Kind.{Kind}
+use Rattle.perm_values.proofs.Steps.{by}
 use Rattle.bag_algebra.proofs.Members.{IsIn}
 use Rattle.bag_algebra.specs.Bags.{Row, Bag}
 use Rattle.bag_algebra.specs.built.Forms.{AllSubsForm, SubsForm-row_of_subs}
@@ -25,10 +26,6 @@ use Rattle.query_laws.specs.SublinkLists.{EachContributes}
 use Rattle.rewrite_core.proofs.FlatRows.{row-begins}
 use Rattle.rewrite_core.proofs.KeptRows.{flat-append}
 use Rattle.rewrite_sublink.proofs.Steps.{SubsFitting, Begun, HasValues}
-
--- what one type has, an equal one has
-pub by : {A B : Type 0} → A ≡ B → A → B
-by e a = subst (λ (X : Type 0). X) e a
 
 pub names-begin : (columns more whole : List Kind) (outer : List (List Kind)) → whole ≡ columns ++ more → NamesAlso (columns ∷ outer) (whole ∷ outer)
 names-begin columns more whole outer e = subst (λ ks. NamesAlso (columns ∷ outer) (ks ∷ outer)) (sym e) (names-more columns more outer)

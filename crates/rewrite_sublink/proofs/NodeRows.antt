@@ -87,10 +87,6 @@ pub first-good : {X : Type 0} (o : Outcome X) (next : X → Outcome Value) → i
 first-good (Good x) next met = (x, refl)
 first-good (Bad f) next met = absurd (cc met)
 
-pub first-of_good : {X Y : Type 0} (o : Outcome X) (next : X → Outcome Y) (y : Y) → and_then o next ≡ Good y → (x : X) × (o ≡ Good x)
-first-of_good (Good x) next y e = (x, refl)
-first-of_good (Bad f) next y e = absurd (cc e)
-
 -- over is the node over the rewriting, p has what the sublinks contribute besides
 module _ (n over p : Query) (db : Database) (env : List Row) (bad : (faults : Faults) → meaning over db env ≡ Bad faults → meaning p db env ≡ Bad faults) where
   pub record Reaching (o s : Outcome Bag) : Type 0 where

@@ -1,7 +1,7 @@
 -- One sublink more, as the loop takes them.
 use Rattle.std.proofs.Common.{◌≡◌, ℕ, zero, suc, ◌+◌, ◌<◌, ◌≤◌, true, List, [], ◌∷◌, length, drop, get_or, sym, ap, ◌∙◌, arith}
-use Rattle.std.proofs.Math.Seq.{drop-cons}
 use Rattle.std.proofs.lemmas.List.{drop_all}
+use Rattle.perm_values.proofs.Lists.{dropped}
 use Rattle.bag_algebra.proofs.Truths.{left-true, right-true}
 use Rattle.bag_algebra.specs.Scoped.{over_tables}
 use Rattle.bag_algebra.specs.declared.query.Query.{Query}
@@ -10,18 +10,13 @@ use Rattle.contribution.specs.CrossBase.{cross_base_of}
 use Rattle.bag_algebra.specs.built.Scopes.{all_over_tables}
 use Rattle.rewrite_sublink.specs.Candidates.{all_contributed, contributed}
 
-pub opened : {X : Type 0} (xs : List X) (at : ℕ) (x : X) → at < length xs → x ≡ get_or xs at x → drop at xs ≡ x ∷ drop (at + 1) xs
-opened xs at x within e =
-    let next : suc at ≡ at + 1 = omega arith in
-    drop-cons xs at x within ∙ (λ i. sym e i ∷ drop (next i) xs)
-
 pub next : (whole : Query) (subs standing : List Sublink) (rewritings : List Query) (at : ℕ) (sub stand : Sublink) (rewriting : Query) →
     at < length subs → at < length standing → at < length rewritings →
     sub ≡ get_or subs at sub → stand ≡ get_or standing at stand → rewriting ≡ get_or rewritings at rewriting →
     all_contributed (contributed whole (cross_base_of sub.query) stand rewriting) (drop (at + 1) subs) (drop (at + 1) standing) (drop (at + 1) rewritings)
     ≡ all_contributed whole (drop at subs) (drop at standing) (drop at rewritings)
 next whole subs standing rewritings at sub stand rewriting h g k e f d =
-    sym (λ i. all_contributed whole (opened subs at sub h e i) (opened standing at stand g f i) (opened rewritings at rewriting k d i))
+    sym (λ i. all_contributed whole (dropped subs at sub h e i) (dropped standing at stand g f i) (dropped rewritings at rewriting k d i))
 
 pub last : (whole : Query) (subs standing : List Sublink) (rewritings : List Query) (at : ℕ) → length subs ≤ at →
     all_contributed whole (drop at subs) (drop at standing) (drop at rewritings) ≡ whole

@@ -1,6 +1,6 @@
 -- The one lemma of a sublink on a row: where the sublink is good there, a candidate passes the test exactly where it is one of
 -- its contributions, flattened; and the test is good on every candidate.
-use Rattle.std.proofs.Common.{◌≡◌, ◌↔◌, ℕ, Bool, true, false, cond, List, [], ◌∷◌, ◌++◌, length, Option, None, Contains, IsTrue, append-nil, refl, sym, ap, ◌∙◌, subst, arith}
+use Rattle.std.proofs.Common.{◌≡◌, ◌↔◌, ℕ, Bool, true, cond, List, [], ◌∷◌, ◌++◌, length, Option, None, Contains, IsTrue, append-nil, refl, sym, ap, ◌∙◌, subst, arith}
 use Rattle.std.specs.List.{list_any, flat_map, range_with_len}
 use Rattle.perm_values.specs.Rows.{picked}
 use Rattle.perm_values.specs.declared.kind.Kind.{Kind}
@@ -8,6 +8,7 @@ use Rattle.perm_values.specs.declared.value.Value.{Value}
 use Rattle.perm_values.specs.declared.value.Value.TheVariants.{Null, Boolean}
 use Rattle.bag_algebra.proofs.Members.{IsIn, in-member, member-in}
 use Rattle.bag_algebra.proofs.TablesRead.{reads_among-fit}
+use Rattle.bag_algebra.proofs.TruthValues.{holds-boolean}
 use Rattle.bag_algebra.specs.Bags.{Row, Bag, member}
 use Rattle.bag_algebra.specs.Children.{subs_denote}
 use Rattle.bag_algebra.specs.Fits.{row_begins}
@@ -38,10 +39,6 @@ use Rattle.rewrite_sublink.proofs.Ready.{Ready, stand_of, base_of}
 use Rattle.rewrite_sublink.proofs.Steps.{SubsFitting, HasValue}
 use Rattle.query_laws.proofs.Contributed.{contributed, contributes-from, in-contributed}
 use Rattle.query_laws.specs.SublinkLists.{Contributes, by_row, by_no_row}
-
-met-is : (b : Bool) → is_met (Good (Boolean b)) ≡ b
-met-is true = refl
-met-is false = refl
 
 -- a sublink of a node whose row begins with columns of these kinds
 module _ {columns : List Kind} {outer : List (List Kind)} {db : Database} {env : List Row} {sub : Sublink} {tested : Option Expr} {s r : Query}
@@ -146,7 +143,7 @@ module _ {columns : List Kind} {outer : List (List Kind)} {db : Database} {env :
 
       pub passing-contributes : (k : Row) → length k ≡ count → is_met (test from (b ++ k)) ≡ true → (c : Witness) × Contributes db env b sub c × (flat c ≡ k)
       passing-contributes k e met =
-          let one : is_one k ≡ true = sym (met-is (is_one k)) ∙ sym (ap is_met (test-good k e)) ∙ met in
+          let one : is_one k ≡ true = sym (holds-boolean (is_one k)) ∙ sym (ap is_met (test-good k e)) ∙ met in
           let c = from-candidate passes (kinds_of sub.query) places vs rs lists rewriting-rows.2 own count (width_of r) own-is count-is whole-is wide long first decided refl k one in
           (c.0, contributes-from db env b sub x vs c.0 parts.2 parts.3 (subst (IsIn c.0) (sym contributed-are) c.1), c.2)
 
@@ -155,7 +152,7 @@ module _ {columns : List Kind} {outer : List (List Kind)} {db : Database} {env :
           let here : IsIn c (contributed db env b sub x) =
           subst (λ y. IsIn c (contributed db env b sub y)) (ap good_value parts.2) (in-contributed db env b sub c h) in
           ap is_met (test-good (flat c) e)
-          ∙ met-is (is_one (flat c))
+          ∙ holds-boolean (is_one (flat c))
           ∙ in-candidate passes (kinds_of sub.query) places vs rs lists rewriting-rows.2 own count (width_of r) own-is count-is whole-is wide long first decided refl c
           (subst (IsIn c) contributed-are here)
 

@@ -3,13 +3,14 @@ use Rattle.std.proofs.Common.{◌≡◌, ◌↔◌, ℕ, ◌+◌, ◌-◌, ◌�
 use Rattle.std.proofs.lemmas.List.{map-append, length-map}
 use Rattle.std.proofs.lemmas.List.Elements.{All-append}
 use Rattle.std.specs.List.{range_with_len}
-use Rattle.perm_values.specs.Rows.{picked, value_at}
+use Rattle.perm_values.specs.Rows.{picked, value_at, PlacesWithin}
 use Rattle.perm_values.specs.declared.kind.Kind.{Kind}
 use Rattle.perm_values.specs.declared.kind.Kind.TheVariants as kind
 use Rattle.perm_values.specs.declared.value.Value.{Value}
 use Rattle.perm_values.specs.declared.value.Value.TheVariants.{Null}
+use Rattle.perm_values.proofs.Steps.{by}
 use Rattle.bag_algebra.proofs.Members.{IsIn, in-map, from-map, in-member}
-use Rattle.bag_algebra.proofs.Outcomes.{mapped-is}
+use Rattle.bag_algebra.proofs.Outcomes.{mapped-is, first-of_good}
 use Rattle.bag_algebra.proofs.TablesRead.{reads_among-each, reads_among-itself}
 use Rattle.bag_algebra.proofs.Widths.{place_kinds-append}
 use Rattle.bag_algebra.specs.Bags.{Row, Bag}
@@ -19,13 +20,13 @@ use Rattle.bag_algebra.specs.Children.{subs_denote, subs_shape}
 use Rattle.bag_algebra.specs.ColumnItems.{column_item, column_items}
 use Rattle.bag_algebra.specs.Expressions.{value}
 use Rattle.bag_algebra.specs.Fits.{TablesFit, bag_fits, env_fits, row_begins}
-use Rattle.bag_algebra.specs.Kinds.{kinds_of, kinds_in, place_kinds, shape, width_of}
+use Rattle.bag_algebra.specs.Kinds.{kinds_of, kinds_in, place_kinds, shape, width_of, item_kinds}
 use Rattle.bag_algebra.specs.Meaning.{Database, meaning, witnesses, items_on}
 use Rattle.bag_algebra.specs.Means.{SubMeans, Witness, flat, good_rows}
 use Rattle.bag_algebra.specs.Outcome.{Faults, Outcome, Good, Bad, and_then, both, each, mapped}
 use Rattle.bag_algebra.specs.Rewriting.{IsRewrite, SameSet, Stands, is_plain}
 use Rattle.bag_algebra.specs.TablesRead.{EachTable, tables_read}
-use Rattle.bag_algebra.specs.WellFormed.{WellFormed, HasKind, ItemsForm, PlacesIn, ProjectForm}
+use Rattle.bag_algebra.specs.WellFormed.{WellFormed, HasKind, ItemsForm, ProjectForm}
 use Rattle.bag_algebra.specs.declared.expr.Item.{Item}
 use Rattle.bag_algebra.specs.declared.query.Query.{Query}
 use Rattle.bag_algebra.specs.declared.query.Query.TheVariants.{Project, Prov}
@@ -40,13 +41,12 @@ use Rattle.rewrite_core.proofs.KeptRows.{row-width, list-width}
 use Rattle.rewrite_core.proofs.Places.{at-between, within-range}
 use Rattle.contribution.proofs.ColumnQueries.{all-first, all-nothing, all-rest, column_items-kinds, kind_there, kinds_of-columns, meaning-columns, formed-columns}
 use Rattle.contribution.proofs.NodeQueries.{plain-projected}
-use Rattle.contribution.specs.ItemKinds.{item_kinds}
 use Rattle.rewrite_core.proofs.BesideLists.{same-from_rewritten}
 use Rattle.rewrite_core.specs.rewritings.Rewritten.{Beside}
 use Rattle.rewrite_core.proofs.Faults.{SameFaults, same_faults-made, each-bad_alike, in-each}
 use Rattle.rewrite_core.proofs.FlatRows.{Flattened, flattened, row-begins, stands_beside}
-use Rattle.rewrite_sublink.proofs.LongerRows.{by, flat-behind, names-rewriting, subs-named, values-longer, contributes-longer, contributes-shorter}
-use Rattle.rewrite_sublink.proofs.NodeRows.{first-of_good, kinds-whole, tables-whole, formed-whole, good-whole, bad-whole, Reaching, reaching-over}
+use Rattle.rewrite_sublink.proofs.LongerRows.{flat-behind, names-rewriting, subs-named, values-longer, contributes-longer, contributes-shorter}
+use Rattle.rewrite_sublink.proofs.NodeRows.{kinds-whole, tables-whole, formed-whole, good-whole, bad-whole, Reaching, reaching-over}
 use Rattle.rewrite_sublink.proofs.Steps.{SubsFitting, HasValues, Reached, Steps}
 use Rattle.rewrite_sublink.specs.Candidates.{beside_row, answer_places, answer_columns}
 use Rattle.query_laws.proofs.AnswerRows.{answer-in, answer-from}
@@ -100,7 +100,7 @@ beside_row-kinds q items =
     (column_items-kinds (kinds_of q) (range_with_len 0 (width_of q))
     ∙ ap (λ ks. kinds_in ks (range_with_len 0 (width_of q))) (sym (append-nil (kinds_of q))) ∙ at-between kind.Text [] (kinds_of q) [] 0 (width_of q) refl refl)
 
-pub columns-formed : (kinds : List Kind) (outer : List (List Kind)) (subs : List Kind) (places : List ℕ) → PlacesIn (length kinds) places →
+pub columns-formed : (kinds : List Kind) (outer : List (List Kind)) (subs : List Kind) (places : List ℕ) → PlacesWithin (length kinds) places →
     ItemsForm (kinds ∷ outer) subs (column_items kinds places)
 columns-formed kinds outer subs [] within = all-nothing _
 columns-formed kinds outer subs (place ∷ places) within =

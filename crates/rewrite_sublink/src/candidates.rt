@@ -12,11 +12,10 @@ ghost use Rattle.rewrite_sublink.specs.Candidates.{all_contributed, contributed,
 
 use crate::decisions::deciding;
 use crate::matching::{Columns, first_column, matching};
-use bag_algebra::{Arm, Expr, JoinKind, Query, SubKind, Sublink};
+use bag_algebra::{Arm, Expr, JoinKind, Query, SubKind, Sublink, exact_width};
 use contribution::{always, cross_base, join_on};
 use null_logic::Truth;
 use perm_values::{Boxed, Copyable, List, NoMemory};
-use rewrite_core::exact_width;
 use std::alloc::Global;
 
 /// The rows, and for each sublink in turn those rows of its cross base that are one of its contributions.

@@ -1,9 +1,8 @@
 //! What the rows beside a sublink's candidates are chosen by.
 ghost use Rattle.std.specs.Prelude.{◌≡◌};
-ghost use Rattle.bag_algebra.specs.declared.query.JoinKind.TheVariants.{Left};
 ghost use Rattle.rewrite_sublink.specs.Candidates.{deciding};
 
-use bag_algebra::{JoinKind, SubKind};
+use bag_algebra::SubKind;
 use null_logic::Truth;
 
 /// The value with which a sublink lets those rows alone contribute that compare so: a true ANY, a false ALL.
@@ -16,13 +15,6 @@ pub(crate) fn deciding(kind: SubKind) -> Option<Truth>
         SubKind::All(_) => Some(Truth::False),
         SubKind::Scalar => None,
     }
-}
-
-/// Where there is no row, a row of NULLs stands.
-pub(crate) fn outwards() -> JoinKind
-    ensures { result ≡ Left }
-{
-    JoinKind::Left
 }
 
 /// Where a candidate stands, seen from the rows of a sublink's query: in the nearest outer row.

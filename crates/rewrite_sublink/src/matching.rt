@@ -2,9 +2,9 @@
 ghost use Rattle.std.specs.Prelude.{◌≡◌, IfOk};
 ghost use Rattle.rewrite_sublink.specs.Candidates.{first_column, matching, or_nulls, same_as_outer};
 
-use crate::decisions::{candidate_level, outwards};
+use crate::decisions::candidate_level;
 use bag_algebra::{Expr, Query};
-use contribution::{always, columns_at, join_on, projection, same_columns, selection};
+use contribution::{always, columns_at, join_on, outwards, projection, same_columns, selection};
 use perm_values::{Copyable, List, NoMemory};
 use std::alloc::Global;
 
@@ -37,6 +37,7 @@ fn or_nulls(alloc: Global, rewriting: &Query) -> Result<Query, NoMemory>
     ensures { IfOk result (λ p. p ≡ or_nulls rewriting.now) }
 {
     let rows = rewriting.copy(alloc)?;
+    // where there is no row, a row of NULLs stands
     join_on(alloc, outwards(), Query::Single, rows, always())
 }
 

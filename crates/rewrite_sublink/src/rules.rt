@@ -9,10 +9,10 @@ ghost use Rattle.rewrite_sublink.specs.Candidates.{all_contributed, answer_colum
 ghost use Rattle.rewrite_sublink.specs.SubRewritings.{SubsRewritten};
 
 use crate::candidates::with_contributions;
-use bag_algebra::{Expr, Item, Query, Sublink};
+use bag_algebra::{Expr, Item, Query, Sublink, exact_width};
 use contribution::{columns_at, regroup};
 use perm_values::{Copyable, List, NoMemory, both};
-use rewrite_core::{exact_width, sum};
+use rewrite_core::sum;
 use std::alloc::Global;
 
 /// A rewriting of the input's rows on which the condition is true, where sublinks of any kind stand in it: the condition

@@ -1,14 +1,15 @@
 -- `=` with any of the first columns of rows, by a table of them.
 use Rattle.std.proofs.Common.{◌≡◌, Bool, true, false, cond, not, ◌&&◌, ◌||◌, [], ◌∷◌, refl, sym, ap, ◌∙◌}
+use Rattle.std.proofs.Math.Bool.{or_comm}
 use Rattle.std.specs.List.{list_any}
-use Rattle.null_logic.specs.Comparison.{compare_values, holds, is_null}
+use Rattle.null_logic.specs.Comparison.{compare_values, holds}
 use Rattle.null_logic.specs.Logic.{is_true, truth_not, value_of, known}
 use Rattle.null_logic.specs.declared.compare.Compare.TheVariants.{Equal, NotEqual}
 use Rattle.null_logic.specs.declared.truth.Truth.{Truth}
 use Rattle.null_logic.specs.declared.truth.Truth.TheVariants.{True, False, Unknown}
 use Rattle.std.specs.declared.cmp.Ordering.{Ordering}
 use Rattle.std.specs.declared.cmp.Ordering.TheVariants as order
-use Rattle.perm_values.specs.Values.{value_cmp}
+use Rattle.perm_values.specs.Values.{value_cmp, is_null}
 use Rattle.perm_values.specs.declared.value.Value.{Value}
 use Rattle.bag_algebra.specs.Bags.{Bag}
 use Rattle.bag_algebra.specs.Means.{some_of, all_of, cell, comparisons, is_some_row}
@@ -41,12 +42,6 @@ unknown_cells x (v ∷ vs) =
     (λ i. null_of (is_null x) (is_null (cell v)) (holds Equal (value_cmp x (cell v))) i || unknown_cells x vs i)
     ∙ one_more_null (is_null x) (is_null (cell v)) (is_some_row vs) (list_any (λ u. is_null (cell u)) vs)
 
-or_turned : (a b : Bool) → (a || b) ≡ (b || a)
-or_turned true true = refl
-or_turned true false = refl
-or_turned false true = refl
-or_turned false false = refl
-
 -- what the table finds is the truth of `=` with any
 pub among : (x : Value) (vs : Bag) (found some_null some_row unknown : Bool) → found ≡ is_some_place (places_of (agree (first_pair ∷ []) (x ∷ [])) vs) →
     some_null ≡ list_any (λ v. is_null (cell v)) vs → some_row ≡ is_some_row vs → unknown ≡ (some_null || (some_row && is_null x)) →
@@ -54,7 +49,7 @@ pub among : (x : Value) (vs : Bag) (found some_null some_row unknown : Bool) →
 among x vs found some_null some_row unknown e f g h =
     let known_found : found ≡ list_any is_true (comparisons Equal x vs) = e ∙ some_place (agree (first_pair ∷ []) (x ∷ [])) vs ∙ sym (equal_cells x vs) in
     let known_null : unknown ≡ list_any (λ t. is_null (value_of t)) (comparisons Equal x vs) =
-    h ∙ (λ i. f i || (g i && is_null x)) ∙ or_turned (list_any (λ v. is_null (cell v)) vs) (is_some_row vs && is_null x) ∙ sym (unknown_cells x vs) in
+    h ∙ (λ i. f i || (g i && is_null x)) ∙ or_comm (list_any (λ v. is_null (cell v)) vs) (is_some_row vs && is_null x) ∙ sym (unknown_cells x vs) in
     λ i. truth_from (known_found i) (known_null i)
 
 -- ---- `<>` with all

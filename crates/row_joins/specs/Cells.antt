@@ -1,7 +1,7 @@
 -- Whether a value is among the first columns of rows.
 use Rattle.std.specs.Prelude.{◌≡◌, Bool, false, cond, [], ◌∷◌}
 use Rattle.std.specs.List.{list_any}
-use Rattle.null_logic.specs.Comparison.{is_null}
+use Rattle.perm_values.specs.Values.{is_null}
 use Rattle.null_logic.specs.declared.truth.Truth.{Truth}
 use Rattle.null_logic.specs.declared.truth.Truth.TheVariants.{True, False, Unknown}
 use Rattle.bag_algebra.specs.Bags.{Bag}

@@ -1,7 +1,7 @@
 //! Whether a value is among the first columns of rows.
 ghost use Rattle.std.specs.Prelude.{◌≡◌, ◌&&◌, ◌||◌, [], ◌∷◌, IfOk};
 ghost use Rattle.std.specs.List.{list_any};
-ghost use Rattle.null_logic.specs.Comparison.{is_null};
+ghost use Rattle.perm_values.specs.Values.{is_null};
 ghost use Rattle.null_logic.specs.declared.compare.Compare.TheVariants.{Equal};
 ghost use Rattle.bag_algebra.specs.Bags.{Bag};
 ghost use Rattle.bag_algebra.specs.Means.{some_of, comparisons, cell};

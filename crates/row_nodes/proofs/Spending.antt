@@ -1,8 +1,9 @@
 -- A map of numbers, of which each row takes one.
-use Rattle.std.proofs.Common.{◌≡◌, ℕ, ◌+◌, ◌-◌, Bool, true, false, cond, not, nat_lt, List, [], ◌∷◌, ◌++◌, Bor, Option, Some, unwrap_or, refl, sym, ap, ◌∙◌, arith}
+use Rattle.std.proofs.Common.{◌≡◌, ℕ, ◌+◌, ◌-◌, Bool, true, false, cond, not, nat_lt, List, [], ◌∷◌, ◌++◌, Bor, Some, unwrap_or, refl, sym, ap, ◌∙◌, arith}
 use Rattle.std.specs.Map.{lookup}
 use mathlib.Core.Bool.{beq}
 use Rattle.perm_values.specs.Rows.{same_row}
+use Rattle.perm_values.proofs.Steps.{unwrap-cond}
 use Rattle.bag_algebra.specs.Bags.{Row, Bag, count}
 use Rattle.bag_algebra.proofs.BagLaws.{same_row-is}
 use Rattle.row_nodes.specs.Marks.{Numbers, marks_by, is_over}
@@ -15,17 +16,13 @@ number_in entries t = unwrap_or (lookup (λ (r : Bor Row). same_row t r.now) ent
 abbrev pub Put : List (Bor Row × ℕ) → List (Bor Row × ℕ) → Bor Row → ℕ → Type 0
 Put old new r n = (q : Bor Row) → lookup (λ (s : Bor Row). same_row q.now s.now) new ≡ cond (same_row r.now q.now) (Some n) (lookup (λ (s : Bor Row). same_row q.now s.now) old)
 
-put_number : (old : Option ℕ) (b : Bool) (n : ℕ) → unwrap_or (cond b (Some n) old) 0 ≡ cond b n (unwrap_or old 0)
-put_number old true n = refl
-put_number old false n = refl
-
 pub numbers_none : (number : Row → ℕ) → ((t : Row) → number t ≡ 0) → Numbers [] number
 numbers_none number e = record { numbers = λ t. sym (e t.now) }
 
 pub numbers_put : (old new : List (Bor Row × ℕ)) (r : Bor Row) (n : ℕ) (before after : Row → ℕ) → Put old new r n → Numbers old before →
     ((t : Row) → cond (same_row r.now t) n (before t) ≡ after t) → Numbers new after
 numbers_put old new r n before after p h e = record {
-  numbers = λ t. ap (λ o. unwrap_or o 0) (p t) ∙ put_number _ (same_row r.now t.now) n ∙ ap (λ m. cond (same_row r.now t.now) n m) (h.numbers t) ∙ e t.now;
+  numbers = λ t. ap (λ o. unwrap_or o 0) (p t) ∙ unwrap-cond _ (same_row r.now t.now) n ∙ ap (λ m. cond (same_row r.now t.now) n m) (h.numbers t) ∙ e t.now;
 }
 
 -- one more of a row

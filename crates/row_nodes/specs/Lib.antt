@@ -1,4 +1,3 @@
-pub mod FreeSublinks
 pub mod Held
 pub mod Joins
 pub mod Keeping

@@ -1,8 +1,7 @@
 //! The rows of classes of the same group values.
-ghost use Rattle.bag_algebra.specs.Meaning.{arguments_on};
+ghost use Rattle.bag_algebra.specs.Meaning.{arguments_on, functions_of};
 ghost use Rattle.bag_algebra.specs.Means.{grouped};
 ghost use Rattle.row_values.specs.Answers.{Gives};
-ghost use Rattle.row_values.specs.Columns.{functions_of};
 
 use crate::input::Input;
 use bag_algebra::{Aggr, Env};

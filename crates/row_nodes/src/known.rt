@@ -108,8 +108,9 @@ impl<'a> Known<'a> {
 
     /// Keeps what was found on the row at hand, which is of so many rows. It fails only for want of memory.
     pub fn keep(&mut self, alloc: Global, rows: usize, answer: Answer<'a>) -> Result<(), NoMemory>
-        ensures knows { (db : Database) (env : ListOf SeenRow) (row : SeenRow) (q : SeenQuery) (in_cells : Bool) →
-            Knows db env q in_cells self.old → picked self.old.memory.places row ≡ self.old.memory.key →
+        ensures knows { (db : Database) (env : ListOf SeenRow) (row : SeenRow) (q : SeenQuery)
+            (in_cells : Bool) → Knows db env q in_cells self.old →
+            picked self.old.memory.places row ≡ self.old.memory.key →
             IsWhole db (row ∷ env) q in_cells answer.entry
             → OnOk result (KnowsOn db env row q in_cells self.new) }
         ensures answer { OnOk result (answer_at self.new ≡ answer.entry) }
@@ -158,8 +159,9 @@ impl<'a> Known<'a> {
 
     /// Keeps the rows that a filter is over, if any were found on the row at hand. It fails only for want of memory.
     pub fn keep_input(&mut self, alloc: Global, input: Option<Keyed<'a>>) -> Result<(), NoMemory>
-        ensures knows { (db : Database) (env : ListOf SeenRow) (row : SeenRow) (q : SeenQuery) (in_cells : Bool) →
-            KnowsInput db env row q in_cells self.old → AreInputOf q self.old.keeping db (row ∷ env) input.entry
+        ensures knows { (db : Database) (env : ListOf SeenRow) (row : SeenRow) (q : SeenQuery)
+            (in_cells : Bool) → KnowsInput db env row q in_cells self.old →
+            AreInputOf q self.old.keeping db (row ∷ env) input.entry
             → OnOk result (KnowsInput db env row q in_cells self.new) }
         ensures input { OnOk result (FindsInput self.new.inputs input.entry) }
         ensures keeping { self.new.keeping ≡ self.old.keeping }

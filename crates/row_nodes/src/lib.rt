@@ -2,7 +2,6 @@
 //! pairs of joins; and what is known of its sublinks, and remembered, from row to row.
 #![tactic(auto)]
 
-mod fault_free;
 mod groups;
 mod input;
 mod items;

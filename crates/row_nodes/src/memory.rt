@@ -6,7 +6,7 @@ ghost use Rattle.row_nodes.specs.memory.Memory.{Forgets, Learns, found, remember
 
 use indexmap::IndexMap;
 use perm_values::{Copyable, List, NoMemory, Row};
-use row_values::value_or_null;
+use row_values::values_at;
 use std::alloc::Global;
 use std::marker::Model;
 
@@ -82,15 +82,4 @@ impl<A: Drop> Memory<A> {
             self.weight = weight;
         }
     }
-}
-
-/// The values of the row at the places; NULL out of range. It fails only for want of memory.
-fn values_at(alloc: Global, row: &Row, places: &[usize]) -> Result<Row, NoMemory>
-    ensures { IfOk result (λ values. values ≡ picked places.now row.now) }
-{
-    let mut values = Row::with_room(alloc, places.len())?;
-    for place in places {
-        values.push(value_or_null(alloc, row.as_slice(), *place)?)?;
-    }
-    Ok(values)
 }

@@ -3,11 +3,12 @@ use Rattle.std.proofs.Common.{◌≡◌, ◌≢◌, ℕ, zero, suc, ◌+◌, ◌
 use Rattle.std.proofs.Math.ListN.{set}
 use Rattle.std.proofs.lemmas.Bool.Decides.{nat_tests}
 use Rattle.std.proofs.lemmas.List.{map-append, take_more, length-set, get_or-set_same, get_or-set_other}
+use Rattle.std.proofs.lemmas.Bool.{eqb-true}
 use Rattle.perm_values.specs.declared.value.Value.{Value}
+use Rattle.perm_values.proofs.Lists.{taken}
 use Rattle.bag_algebra.specs.Bags.{Row, Bag}
 use Rattle.bag_algebra.specs.Means.{good_value}
 use Rattle.bag_algebra.specs.Outcome.{Outcome, Good}
-use Rattle.row_values.proofs.Taken.{taken}
 use Rattle.row_values.specs.Columns.{IsGoodOn, Distributes}
 use Rattle.row_values.specs.Groups.{numbered}
 
@@ -31,9 +32,6 @@ numbered-more number (m ∷ numbers) (v ∷ us) n u e = by (nat_eq m number) (nu
         ≡ cond b (v ∷ numbered number numbers us) (numbered number numbers us) ++ cond (nat_eq n number) (u ∷ []) []
     by true h = ap (λ l. v ∷ l) h
     by false h = h
-
-is_number : (a b : ℕ) → nat_eq a b ≡ true → a ≡ b
-is_number a b e = grind (arith, nat_tests)
 
 no_number : (a b : ℕ) → nat_eq a b ≡ false → b ≢ a
 no_number a b e = grind (arith, nat_tests)
@@ -60,7 +58,7 @@ distributes-more f us numbers count classes u n v class d long low good e = reco
     by : (number : ℕ) → number < count → (b : Bool) → nat_eq n number ≡ b →
         get_or (set classes n class) number [] ≡ map (λ w. good_value (f w)) (numbered number (numbers ++ n ∷ []) (us ++ u ∷ []))
     by number h true g =
-        let same = is_number n number g in
+        let same = eqb-true n number g in
         ap (λ m. get_or (set classes n class) m []) (sym same)
         ∙ get_or-set_same classes n class [] (let k = d.long in omega arith)
         ∙ e ∙ ap (λ l. l ++ v ∷ []) (ap (λ m. get_or classes m []) same ∙ d.values number h)

@@ -6,17 +6,18 @@ use Rattle.std.specs.List.{AllZip}
 use Rattle.perm_values.specs.Rows.{value_at, same_row, picked}
 use Rattle.perm_values.specs.declared.value.Value.{Value}
 use Rattle.bag_algebra.specs.Bags.{Row, Bag}
-use Rattle.bag_algebra.specs.Meaning.{optional_value, arguments_on}
+use Rattle.bag_algebra.specs.Meaning.{optional_value, arguments_on, functions_of}
 use Rattle.bag_algebra.specs.Means.{aggregated, aggregates_of, good_row, good_value, class_of, class_keys, class_row, grouped}
 use Rattle.bag_algebra.specs.Outcome.{Outcome, Good, Bad, union, has, and_then, mapped, both, each}
 use Rattle.bag_algebra.specs.declared.query.Aggr.{Aggr}
 use Rattle.null_logic.specs.declared.run_fault.RunFault.{RunFault}
 use Rattle.null_logic.specs.declared.run_fault.RunFault.TheVariants.{DivideByZero, OutOfRange, SeveralRows}
+use Rattle.bag_algebra.proofs.Outcomes.{mapped-is}
 use Rattle.row_values.specs.Answers.{Refuses}
 use Rattle.row_values.specs.declared.error.ExecError.{ExecError}
 use Rattle.row_values.specs.declared.error.ExecError.TheVariants.{Fault, NoMemory}
 use Rattle.row_values.proofs.Outcomes.{both_first, both_second, each_item, each_good, and_then_first}
-use Rattle.row_values.specs.Columns.{functions_of, IsGoodOn, IsColumn, class_value, MakesRows}
+use Rattle.row_values.specs.Columns.{IsGoodOn, IsColumn, class_value, MakesRows}
 use Rattle.row_values.specs.Groups.{IsClassed, numbered}
 use Rattle.row_values.specs.declared.groups.column.Column.{Column}
 use Rattle.row_values.proofs.Keys.{numbered-is}
@@ -151,15 +152,11 @@ zip-more R [] (z ∷ ys) x y h r = absurd h
 zip-more R (z ∷ xs) [] x y h r = absurd h
 zip-more R (w ∷ xs) (z ∷ ys) x y h r = (h.0, zip-more R xs ys x y h.1 r)
 
-mapped_good : {X Y : Type 0} (f : X → Y) (o : Outcome X) (y : Y) → mapped f o ≡ Good y → (x : X) × (o ≡ Good x) × (f x ≡ y)
-mapped_good f (Good x) y e = (x, refl, cc)
-mapped_good f (Bad g) y e = absurd (cc e)
-
 pub row-more : (key : Row) (f : Column → Outcome Value) (columns : List Column) (column : Column) (row new : Row) (v : Value) →
     mapped (λ values. key ++ values) (each f columns) ≡ Good row → f column ≡ Good v → new ≡ row ++ v ∷ [] →
     mapped (λ values. key ++ values) (each f (columns ++ column ∷ [])) ≡ Good new
 row-more key f columns column row new v e here is =
-    let m = mapped_good (λ values. key ++ values) (each f columns) row e in
+    let m = mapped-is (λ values. key ++ values) (each f columns) row e in
     ap (mapped (λ values. key ++ values)) (each_good f columns column m.0 v m.1 here)
     ∙ ap Good (sym (append_assoc key m.0 (v ∷ [])) ∙ ap (λ l. l ++ v ∷ []) m.2 ∙ sym is)
 

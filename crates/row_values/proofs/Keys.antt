@@ -1,12 +1,12 @@
 -- The numbers of classes, one row after another.
 use Rattle.std.proofs.Common.{◌≡◌, ◌≢◌, ℕ, zero, suc, ◌<◌, ◌≤◌, Bool, true, false, cond, nat_eq, ◌||◌, List, [], ◌∷◌, ◌++◌, map, length, get_or, Some, refl, sym, ap, subst, ◌∙◌, arith, true≢false}
-use Rattle.std.proofs.lemmas.Bool.Decides.{nat_tests}
 use Rattle.std.proofs.lemmas.List.{map-append}
-use Rattle.std.proofs.lemmas.Option.{slice_get_within}
+use Rattle.std.proofs.lemmas.Option.{slice_get_within, same_Some}
+use Rattle.std.proofs.lemmas.Bool.{eq-eqb, ne_eqb}
 use Rattle.std.specs.List.{list_any, slice_get}
 use Rattle.indexmap.specs.IndexSet.{insert_key}
 use Rattle.perm_values.specs.Rows.{same_row, picked}
-use Rattle.bag_algebra.proofs.BagLaws.{same_row-is, same_row-refl, same_row-sym, member-once, count-once}
+use Rattle.bag_algebra.proofs.BagLaws.{same_row-is, same_row-refl, same_row-sym, member-once, keys-once}
 use Rattle.bag_algebra.specs.Bags.{Row, Bag, count, member, once}
 use Rattle.bag_algebra.specs.Means.{class_keys, class_of}
 use Rattle.row_values.specs.Groups.{IsClassed, numbered}
@@ -84,20 +84,9 @@ numbers_within groups us keys numbers c = each numbers us c.found
 
 -- ---- each key stands at one place
 
-at_most_one : (b : Bool) → cond b 1 0 ≤ 1
-at_most_one true = omega arith
-at_most_one false = omega arith
-
-pub once-keys : (groups : List ℕ) (us : Bag) (key : Row) → count key (class_keys groups us) ≤ 1
-once-keys [] us key = at_most_one (same_row [] key)
-once-keys (group ∷ groups) us key = subst (λ n. n ≤ 1) (sym (count-once key (map (picked (group ∷ groups)) us))) (at_most_one (member key (map (picked (group ∷ groups)) us)))
-
-is_some : {X : Type 0} (x y : X) → Some x ≡ Some y → x ≡ y
-is_some x y e = cc
-
 counted : (keys : Bag) (n : ℕ) (key : Row) → slice_get keys n ≡ Some key → 0 < count key keys
 counted [] n key e = absurd (cc e)
-counted (k ∷ keys) zero key e = rw (ap (λ x. same_row x key) (is_some k key e) ∙ same_row-refl key) (omega arith)
+counted (k ∷ keys) zero key e = rw (ap (λ x. same_row x key) (same_Some k key e) ∙ same_row-refl key) (omega arith)
 counted (k ∷ keys) (suc n) key e = by (same_row k key) (counted keys n key e)
   where
     by : (b : Bool) → 0 < count key keys → 0 < cond b (suc (count key keys)) (count key keys)
@@ -120,33 +109,27 @@ twice k key keys n e f h =
 one_place : (keys : Bag) (n m : ℕ) (key : Row) → count key keys ≤ 1 → slice_get keys n ≡ Some key → slice_get keys m ≡ Some key → n ≡ m
 one_place [] n m key h e f = absurd (cc e)
 one_place (k ∷ keys) zero zero key h e f = refl
-one_place (k ∷ keys) zero (suc m) key h e f = absurd (twice k key keys m (is_some k key e) f h)
-one_place (k ∷ keys) (suc n) zero key h e f = absurd (twice k key keys n (is_some k key f) e h)
+one_place (k ∷ keys) zero (suc m) key h e f = absurd (twice k key keys m (same_Some k key e) f h)
+one_place (k ∷ keys) (suc n) zero key h e f = absurd (twice k key keys n (same_Some k key f) e h)
 one_place (k ∷ keys) (suc n) (suc m) key h e f = ap suc (one_place keys n m key (fewer k key keys h) e f)
 
 -- ---- the rows with a key's number are those of its class
-
-same_number : (a b : ℕ) → a ≡ b → nat_eq a b ≡ true
-same_number a b e = grind (arith, nat_tests)
-
-other_number : (a b : ℕ) → a ≢ b → nat_eq a b ≡ false
-other_number a b e = grind (arith, nat_tests)
 
 pub numbered-is : (groups : List ℕ) (us keys : Bag) (numbers : List ℕ) (number : ℕ) (key : Row) → IsClassed groups us keys numbers →
     slice_get keys number ≡ Some key → numbered number numbers us ≡ class_of groups key us
 numbered-is groups us keys numbers number key c at = rows numbers us c.found
   where
     single : count key keys ≤ 1
-    single = subst (λ ks. count key ks ≤ 1) (sym c.classes) (once-keys groups us key)
+    single = subst (λ ks. count key ks ≤ 1) (sym c.classes) (keys-once groups us key)
 
     other : (n : ℕ) (v : Row) → slice_get keys n ≡ Some (picked groups v) → same_row (picked groups v) key ≡ false → n ≢ number
     other n v e f g =
         let k : Some (picked groups v) ≡ Some key = sym e ∙ ap (slice_get keys) g ∙ at in
-        true≢false (sym (ap (λ x. same_row x key) (is_some _ _ k) ∙ same_row-refl key) ∙ f)
+        true≢false (sym (ap (λ x. same_row x key) (same_Some _ _ k) ∙ same_row-refl key) ∙ f)
 
     test : (n : ℕ) (v : Row) (b : Bool) → slice_get keys n ≡ Some (picked groups v) → same_row (picked groups v) key ≡ b → nat_eq n number ≡ b
-    test n v true e f = same_number n number (one_place keys n number key single (e ∙ ap Some (same_row-is (picked groups v) key f)) at)
-    test n v false e f = other_number n number (other n v e f)
+    test n v true e f = eq-eqb n number (one_place keys n number key single (e ∙ ap Some (same_row-is (picked groups v) key f)) at)
+    test n v false e f = ne_eqb n number (other n v e f)
 
     rows : (ns : List ℕ) (vs : Bag) → map (slice_get keys) ns ≡ map (λ u. Some (picked groups u)) vs → numbered number ns vs ≡ class_of groups key vs
     rows [] [] e = refl

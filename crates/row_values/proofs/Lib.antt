@@ -5,7 +5,6 @@ pub mod Least
 pub mod Once
 pub mod Outcomes
 pub mod Quantified
-pub mod Taken
 pub mod Totals
 pub mod Truths
 pub mod Values

@@ -1,5 +1,5 @@
 -- Outcomes of lists, item by item, and where a fault of a part is a fault of the whole.
-use Rattle.std.proofs.Common.{◌≡◌, ℕ, suc, zero, ◌<◌, Bool, true, false, ◌||◌, List, [], ◌∷◌, ◌++◌, length, get_or, refl, sym, ap, subst, ◌∙◌, arith, append_assoc, append-nil, Result, Ok, Err, IsErrAnd, IfOk, IfErr}
+use Rattle.std.proofs.Common.{◌≡◌, ℕ, suc, zero, ◌<◌, Bool, true, false, ◌||◌, List, [], ◌∷◌, ◌++◌, length, get_or, refl, sym, ap, subst, ◌∙◌, arith, append_assoc, append-nil, Result, Ok, Err, IsErrAnd, IfErr}
 use Rattle.null_logic.specs.declared.run_fault.RunFault.{RunFault}
 use Rattle.null_logic.specs.declared.run_fault.RunFault.TheVariants.{DivideByZero, OutOfRange, SeveralRows}
 use Rattle.bag_algebra.specs.Outcome.{Outcome, Good, Bad, Faults, union, only, has, and_then, mapped, both, both_then, gather, each, of_result}
@@ -127,11 +127,6 @@ gather_more f (y ∷ xs) x = ap (both (λ ys zs. ys ++ zs) (f y)) (gather_more f
 pub gather_good : {X Y : Type 0} (f : X → Outcome (List Y)) (xs : List X) (x : X) (ys zs : List Y) →
     gather f xs ≡ Good ys → f x ≡ Good zs → gather f (xs ++ x ∷ []) ≡ Good (ys ++ zs)
 gather_good f xs x ys zs e e' = gather_more f xs x ∙ (λ i. both (λ ys zs. ys ++ zs) (e i) (e' i))
-
--- what an Ok says, from what it said
-pub if_ok : {X E : Type 0} (P Q : X → Type 0) (r : Result X E) → ((x : X) → P x → Q x) → IfOk r P → IfOk r Q
-if_ok P Q (Ok x) f h = f x h
-if_ok P Q (Err e) f h = tt
 
 -- two good parts, and what comes after them
 pub both_then_are : {X Y Z : Type 0} (a : Outcome X) (b : Outcome Y) (next : X → Y → Outcome Z) (x : X) (y : Y) → a ≡ Good x → b ≡ Good y → both_then a b next ≡ next x y

@@ -8,15 +8,14 @@ use Rattle.std.specs.Cmp.{decided}
 use Rattle.std.specs.List.{list_any}
 use Rattle.indexmap.specs.IndexSet.{insert_key}
 use Rattle.null_logic.specs.Arithmetic.{fits_64}
-use Rattle.null_logic.specs.Comparison.{is_null}
 use Rattle.null_logic.specs.declared.run_fault.RunFault.TheVariants.{OutOfRange}
 use Rattle.perm_values.specs.ValueLaws.{value_decides}
-use Rattle.perm_values.specs.Values.{same_value}
+use Rattle.perm_values.specs.Values.{same_value, is_null}
 use Rattle.perm_values.specs.declared.value.Value.{Value}
 use Rattle.perm_values.specs.declared.value.Value.TheVariants.{Null, Integer, Text, Boolean}
+use Rattle.perm_values.proofs.Lists.{taken}
 use Rattle.bag_algebra.specs.Means.{present, number_of, once_each, total, sum_of}
 use Rattle.bag_algebra.specs.Outcome.{Good, Bad, only}
-use Rattle.row_values.proofs.Taken.{taken}
 use Rattle.row_values.proofs.Once.{once_each_more, any-once_each}
 
 -- ---- one more value

@@ -5,13 +5,9 @@ use Rattle.bag_algebra.specs.Bags.{Row, Bag}
 use Rattle.bag_algebra.specs.Meaning.{optional_value}
 use Rattle.bag_algebra.specs.Means.{aggregated, good_value}
 use Rattle.bag_algebra.specs.Outcome.{Outcome, Good, mapped, each}
-use Rattle.bag_algebra.specs.declared.query.AggFn.{AggFn}
 use Rattle.bag_algebra.specs.declared.query.Aggr.{Aggr}
 use Rattle.row_values.specs.Groups.{numbered}
 use Rattle.row_values.specs.declared.groups.column.Column.{Column}
-
-abbrev pub functions_of : List Aggr → List AggFn
-functions_of aggregates = map (λ (aggregate : Aggr). aggregate.function) aggregates
 
 -- the test is good on each row
 abbrev pub IsGoodOn : {Y : Type 0} → (Row → Outcome Y) → (Row → Y) → Bag → Type 0

@@ -2,9 +2,8 @@
 use Rattle.std.specs.Prelude.{ℕ, Bool, cond, not, ◌&&◌, ◌||◌, nat_le, List, length}
 use Rattle.std.specs.Ordering.{ordering_reverse, is_gt}
 use Rattle.std.specs.declared.cmp.Ordering.{Ordering}
-use Rattle.null_logic.specs.Comparison.{is_null}
 use Rattle.perm_values.specs.Rows.{value_at}
-use Rattle.perm_values.specs.Values.{value_cmp}
+use Rattle.perm_values.specs.Values.{value_cmp, is_null}
 use Rattle.perm_values.specs.declared.value.Value.{Value}
 
 abbrev pub order_of : Bool → Value → Value → Ordering

@@ -1,6 +1,5 @@
 -- What becomes of the values of parts.
 use Rattle.std.specs.Prelude.{◌≡◌, Bool, true, false, List, Option, Some, None, Result, Ok, Err, unwrap_or}
-use Rattle.null_logic.specs.Comparison.{is_null}
 use Rattle.null_logic.specs.Logic.{truth_and, truth_or, truth_of, value_of}
 use Rattle.null_logic.specs.declared.arith.Arith.{Arith}
 use Rattle.null_logic.specs.declared.operator.Operator.{Operator}
@@ -8,7 +7,7 @@ use Rattle.null_logic.specs.declared.operator.Operator.TheVariants as op
 use Rattle.null_logic.specs.declared.truth.Truth.{Truth}
 use Rattle.perm_values.specs.declared.value.Value.{Value}
 use Rattle.perm_values.specs.declared.value.Value.TheVariants.{Null, Boolean}
-use Rattle.perm_values.specs.Values.{same_value}
+use Rattle.perm_values.specs.Values.{same_value, is_null}
 use Rattle.bag_algebra.specs.Bags.{Row}
 use Rattle.bag_algebra.specs.Children.{step_of}
 use Rattle.bag_algebra.specs.Expressions.{chain, arith_values, has_truth, all_true, some_true}

@@ -1,7 +1,7 @@
 //! The value of an expression on a row.
-ghost use Rattle.std.specs.Prelude.{◌≡◌, false, IfOk, IfSome};
+ghost use Rattle.std.specs.Prelude.{◌≡◌, false, [], IfOk, IfSome};
 ghost use Rattle.std.specs.Option.{option_copied};
-ghost use Rattle.perm_values.specs.Rows.{value_at};
+ghost use Rattle.perm_values.specs.Rows.{picked, value_at};
 ghost use Rattle.perm_values.specs.declared.value.Value.{Value as Cell};
 ghost use Rattle.bag_algebra.specs.Children.{part_values, arms_value};
 ghost use Rattle.bag_algebra.specs.Expressions.{value, column, operate};
@@ -53,6 +53,28 @@ pub fn eval(
             same_as(left, operand(alloc, second.get(), row, subs, env))
         }
     }
+}
+
+/// The value of an expression that sees no column.
+///
+/// `Fault` names a fault that the expression meets, and comes only where it meets one.
+pub fn value_alone(alloc: Global, expr: &Expr) -> Result<Value, ExecError>
+    ensures { Gives (value expr.now [] [] []) result }
+{
+    let nothing = Row::new(alloc);
+    let env = Env::new(alloc);
+    eval(alloc, expr, &nothing, &[], &env)
+}
+
+/// The values of the row at the places; NULL out of range. It fails only for want of memory.
+pub fn values_at(alloc: Global, row: &Row, places: &[usize]) -> Result<Row, NoMemory>
+    ensures { IfOk result (λ values. values ≡ picked places.now row.now) }
+{
+    let mut values = Row::with_room(alloc, places.len())?;
+    for place in places {
+        values.push(value_or_null(alloc, row.as_slice(), *place)?)?;
+    }
+    Ok(values)
 }
 
 /// The value of an operand, which is read where it lies if it is a column, a literal or a sublink's.

@@ -10,7 +10,7 @@ mod operate;
 mod sublink;
 
 pub use error::ExecError;
-pub use expression::{eval, value_at, value_or_null};
+pub use expression::{eval, value_alone, value_at, value_or_null, values_at};
 pub use groups::grouped;
 pub use operate::{holds, is_null};
 pub use sublink::{optional_value, sub_value};

@@ -1,6 +1,7 @@
 //! Operators on the values of their parts.
 ghost use Rattle.std.specs.Prelude.{◌≡◌, cond, false};
-ghost use Rattle.null_logic.specs.Comparison.{is_null, in_list};
+ghost use Rattle.perm_values.specs.Values.{is_null};
+ghost use Rattle.null_logic.specs.Comparison.{in_list};
 ghost use Rattle.bag_algebra.specs.Expressions.{arith_values, negate_value, like_values, has_truth, operate};
 ghost use Rattle.bag_algebra.specs.Means.{holds_of};
 ghost use Rattle.bag_algebra.specs.Outcome.{Good, of_result};

@@ -1,13 +1,13 @@
 -- Lists that grow by what passes a test, or by what is moved.
 use Rattle.std.proofs.Common.{◌≡◌, ℕ, ◌<◌, ◌+◌, Bool, true, false, cond, List, [], ◌∷◌, ◌++◌, length, get_or, filter, take, append-nil, refl, sym, ap, ◌∙◌, subst}
+use Rattle.perm_values.proofs.Lists.{taken}
 use Rattle.bag_algebra.specs.declared.expr.Expr.{Expr}
-use Rattle.contribution.proofs.Added.{one_more}
 use Rattle.contribution.specs.MovedColumns.{IsMoved, PartsMoved}
 use Rattle.simpler_laws.proofs.Gathered.{filter-append}
 
 filter-next : {X : Type 0} (p : X → Bool) (xs : List X) (i : ℕ) (x : X) → i < length xs → x ≡ get_or xs i x →
     filter p (take i xs) ++ cond (p x) (x ∷ []) [] ≡ filter p (take (i + 1) xs)
-filter-next p xs i x within is = sym (ap (filter p) (one_more xs i x within is) ∙ filter-append p (take i xs) (x ∷ []))
+filter-next p xs i x within is = sym (ap (filter p) (taken xs i x within is) ∙ filter-append p (take i xs) (x ∷ []))
 
 pub added-where : {X : Type 0} (p : X → Bool) (xs found more : List X) (i : ℕ) (x : X) (goes : Bool) → i < length xs → x ≡ get_or xs i x →
     found ≡ filter p (take i xs) → goes ≡ p x → more ≡ found ++ cond goes (x ∷ []) [] → more ≡ filter p (take (i + 1) xs)

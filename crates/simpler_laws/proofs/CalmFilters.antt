@@ -1,22 +1,23 @@
 -- A filter with sublinks that can't fault: its conjuncts that need no sublink are tests below it.
-use Rattle.std.proofs.Common.{◌≡◌, ℕ, Bool, true, false, cond, not, ◌&&◌, ◌-◌, ◌^◌, List, [], ◌∷◌, ◌++◌, filter, Option, Some, None, refl, sym, ap, ◌∙◌, subst, true≢false}
+use Rattle.std.proofs.Common.{◌≡◌, ℕ, Bool, true, false, cond, ◌&&◌, ◌-◌, ◌^◌, List, [], ◌∷◌, ◌++◌, filter, refl, sym, ap, ◌∙◌, subst, true≢false}
 use Rattle.std.proofs.lemmas.List.Folds.{list_all-append}
 use Rattle.std.specs.List.{list_all}
 use Rattle.std.proofs.lemmas.Bool.{and_from}
 use Rattle.perm_values.specs.declared.kind.Kind.{Kind}
 use Rattle.perm_values.specs.declared.kind.Kind.TheVariants as kind
 use Rattle.perm_values.specs.declared.value.Value.{Value}
-use Rattle.bag_algebra.proofs.NeverBad.{good-query, good-value}
-use Rattle.bag_algebra.proofs.Truths.{left-true, right-true, both-true}
-use Rattle.bag_algebra.specs.Bags.{Row, Bag}
+use Rattle.perm_values.proofs.Steps.{by}
+use Rattle.bag_algebra.proofs.NeverBad.{good-value, good-answers}
+use Rattle.bag_algebra.proofs.Truths.{both-true}
+use Rattle.bag_algebra.specs.Bags.{Row}
 use Rattle.bag_algebra.specs.Children.{subs_denote}
 use Rattle.bag_algebra.specs.Expressions.{value}
-use Rattle.bag_algebra.specs.FaultFree.{faultless, fault_free, is_scalar, option_faultless}
+use Rattle.bag_algebra.specs.FaultFree.{faultless}
 use Rattle.bag_algebra.specs.Fits.{TablesFit, env_fits}
 use Rattle.bag_algebra.specs.Kinds.{kinds_of}
-use Rattle.bag_algebra.specs.Meaning.{Database, meaning, condition_on, optional_value}
-use Rattle.bag_algebra.specs.Means.{is_met, sub_value}
-use Rattle.bag_algebra.specs.Outcome.{Outcome, Good, Bad, is_good, and_then, mapped, both, both_then}
+use Rattle.bag_algebra.specs.Meaning.{Database, meaning, condition_on}
+use Rattle.bag_algebra.specs.Means.{is_met}
+use Rattle.bag_algebra.specs.Outcome.{Outcome, Good, Bad, is_good, and_then, mapped}
 use Rattle.bag_algebra.specs.Rewriting.{is_plain, Stands}
 use Rattle.bag_algebra.specs.TablesRead.{EachTable}
 use Rattle.bag_algebra.specs.WellFormed.{HasKind, WellFormed}
@@ -27,54 +28,20 @@ use Rattle.bag_algebra.specs.built.Scopes.{all_plain, is_plain-Filter}
 use Rattle.bag_algebra.specs.declared.expr.Expr.{Expr}
 use Rattle.bag_algebra.specs.declared.query.Query.{Query}
 use Rattle.bag_algebra.specs.declared.query.Query.TheVariants.{Filter}
-use Rattle.bag_algebra.specs.declared.query.SubKind.{SubKind}
-use Rattle.bag_algebra.specs.declared.query.SubKind.TheVariants as sub
 use Rattle.bag_algebra.specs.declared.query.Sublink.{Sublink}
-use Rattle.contribution.proofs.WhereGood.{Each}
+use Rattle.contribution.proofs.SameTests.{all_hold-faultless}
+use Rattle.contribution.proofs.WhereGood.{Every}
 use Rattle.contribution.specs.Conjunctions.{all_hold}
 use Rattle.rewrite_core.proofs.Itself.{stands-onward}
 use Rattle.simpler_laws.proofs.Gathered.{filter-good, filter-twice, mapped-twice}
 use Rattle.simpler_laws.proofs.Parting.{two-halves, passed, faultless-passed, have-passed}
 use Rattle.simpler_laws.proofs.Reading.{value-read, kind-read}
-use Rattle.simpler_laws.proofs.TestedQueries.{by, stands-same, kinds-tested, plain-tested, tables-tested, tables-untested, formed-tested, formed-untested, meaning-tested}
-use Rattle.simpler_laws.proofs.Testing.{all_hold-faultless, all_hold-formed, all_hold-met, conjuncts-faultless, conjuncts-formed, conjuncts-met, have-append}
+use Rattle.simpler_laws.proofs.TestedQueries.{stands-same, kinds-tested, plain-tested, tables-tested, tables-untested, formed-tested, formed-untested, meaning-tested}
+use Rattle.simpler_laws.proofs.Testing.{all_hold-formed, all_hold-met, conjuncts-faultless, conjuncts-formed, conjuncts-met, have-append}
 use Rattle.simpler_laws.specs.Conjuncts.{conjuncts}
 use Rattle.simpler_laws.specs.Parts.{is_bound, is_free, IsParted}
 use Rattle.simpler_laws.specs.Tested.{hold, tested}
 use Rattle.simpler_laws.specs.declared.filters.Parts.{Parts}
-
--- ---- sublinks that can't fault
-
-good-both : {X Y Z : Type 0} (f : X → Y → Z) (a : Outcome X) (b : Outcome Y) → is_good a ≡ true → is_good b ≡ true → is_good (both f a b) ≡ true
-good-both f (Good x) (Good y) h k = refl
-good-both f (Good x) (Bad g) h k = k
-good-both f (Bad g) (Good y) h k = h
-good-both f (Bad g) (Bad l) h k = h
-
-good-sub : (kind : SubKind) (o : Outcome Value) (p : Outcome Bag) → not (is_scalar kind) ≡ true → is_good o ≡ true → is_good p ≡ true →
-    is_good (both_then o p (sub_value kind)) ≡ true
-good-sub sub.Exists (Good x) (Good bag) w h k = refl
-good-sub (sub.Any c) (Good x) (Good bag) w h k = refl
-good-sub (sub.All c) (Good x) (Good bag) w h k = refl
-good-sub sub.Scalar (Good x) (Good bag) w h k = absurd (true≢false (sym w))
-good-sub kind (Good x) (Bad g) w h k = absurd (true≢false (sym k))
-good-sub kind (Bad g) (Good bag) w h k = absurd (true≢false (sym h))
-good-sub kind (Bad g) (Bad l) w h k = absurd (true≢false (sym h))
-
-good-option : (part : Option Expr) → option_faultless part ≡ true → (env : List Row) (u : Row) → is_good (optional_value part env u) ≡ true
-good-option None w env u = refl
-good-option (Some part) w env u = good-value part w u env []
-
-good-answers : (subs : List Sublink) → all_fault_free subs ≡ true → (db : Database) (env : List Row) (u : Row) → is_good ((subs_denote subs db env).answers u) ≡ true
-good-answers [] w db env u = refl
-good-answers (s ∷ subs) w db env u =
-    let own = left-true ((not (is_scalar s.kind) && option_faultless s.tested) && fault_free s.query) (all_fault_free subs) w in
-    let form = left-true (not (is_scalar s.kind) && option_faultless s.tested) (fault_free s.query) own in
-    good-both (λ v vs. v ∷ vs) (both_then (optional_value s.tested env u) (meaning s.query db (u ∷ env)) (sub_value s.kind)) ((subs_denote subs db env).answers u)
-    (good-sub s.kind (optional_value s.tested env u) (meaning s.query db (u ∷ env)) (left-true (not (is_scalar s.kind)) (option_faultless s.tested) form)
-    (good-option s.tested (right-true (not (is_scalar s.kind)) (option_faultless s.tested) form) env u)
-    (good-query s.query (right-true (not (is_scalar s.kind) && option_faultless s.tested) (fault_free s.query) own) db (u ∷ env)))
-    (good-answers subs (right-true ((not (is_scalar s.kind) && option_faultless s.tested) && fault_free s.query) (all_fault_free subs) w) db env u)
 
 -- ---- truths
 
@@ -87,13 +54,13 @@ last-first false b c = refl
 
 -- ---- tests that need no sublink
 
-hold-free : (tests : List Expr) → Each (λ test. is_free test ≡ true) tests → (env : List Row) (answers : List Value) (u : Row) →
+hold-free : (tests : List Expr) → Every (λ test. is_free test ≡ true) tests → (env : List Row) (answers : List Value) (u : Row) →
     hold tests env answers u ≡ hold tests env [] u
 hold-free [] h env answers u = refl
 hold-free (test ∷ tests) h env answers u =
     λ i. is_met (value-read true 0 (2 ^ 64 - 1) u u (λ place w. refl) env answers [] test h.0 i) && hold-free tests h.1 env answers u i
 
-have-free : (kinds : List Kind) (outer : List (List Kind)) (subs : List Kind) (k : Kind) (tests : List Expr) → Each (λ test. is_free test ≡ true) tests →
+have-free : (kinds : List Kind) (outer : List (List Kind)) (subs : List Kind) (k : Kind) (tests : List Expr) → Every (λ test. is_free test ≡ true) tests →
     AllHave (kinds ∷ outer) subs tests k → AllHave (kinds ∷ outer) [] tests k
 have-free kinds outer subs k [] h g = tt
 have-free kinds outer subs k (test ∷ tests) h g =

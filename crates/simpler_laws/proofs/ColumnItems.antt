@@ -2,20 +2,21 @@
 use Rattle.std.proofs.Common.{◌≡◌, ℕ, ◌<◌, ◌&&◌, Bool, true, List, [], ◌∷◌, ◌++◌, length, filter, map, Some, refl, sym, ap, ◌∙◌, subst}
 use Rattle.std.proofs.lemmas.Option.{get_or_from_slice_get, slice_get_within}
 use Rattle.std.specs.Prelude.{⊤, slice_get}
-use Rattle.perm_values.specs.Rows.{picked}
+use Rattle.perm_values.specs.Rows.{picked, PlacesWithin}
 use Rattle.perm_values.specs.declared.kind.Kind.{Kind}
 use Rattle.perm_values.specs.declared.kind.Kind.TheVariants as kind
 use Rattle.perm_values.specs.declared.value.Value.{Value}
+use Rattle.perm_values.proofs.Steps.{by}
 use Rattle.bag_algebra.proofs.Truths.{and_true}
 use Rattle.bag_algebra.specs.Bags.{Row, Bag}
 use Rattle.bag_algebra.specs.Expressions.{value}
-use Rattle.bag_algebra.specs.Kinds.{kind_in, kinds_in, kinds_of}
+use Rattle.bag_algebra.specs.Kinds.{kind_in, kinds_in, kinds_of, item_kinds}
 use Rattle.bag_algebra.specs.Meaning.{Database, meaning, items_on}
 use Rattle.bag_algebra.specs.Means.{is_met, no_subs}
 use Rattle.bag_algebra.specs.Outcome.{Outcome, Good, Bad, and_then, mapped, both, each}
 use Rattle.bag_algebra.specs.Rewriting.{is_plain, Stands}
 use Rattle.bag_algebra.specs.TablesRead.{EachTable}
-use Rattle.bag_algebra.specs.WellFormed.{HasKind, ItemsForm, PlacesIn, WellFormed}
+use Rattle.bag_algebra.specs.WellFormed.{HasKind, ItemsForm, WellFormed}
 use Rattle.bag_algebra.specs.built.FaultFree.{all_parts_faultless}
 use Rattle.bag_algebra.specs.built.Forms.{AllHave, EachTable-Project, WellFormed-Project}
 use Rattle.bag_algebra.specs.built.Openings.{Project_with-is, meaning-Project}
@@ -27,13 +28,12 @@ use Rattle.bag_algebra.specs.declared.query.Query.{Query}
 use Rattle.bag_algebra.specs.declared.query.Query.TheVariants.{Project}
 use Rattle.contribution.proofs.ColumnQueries.{all-nothing, all-first}
 use Rattle.contribution.proofs.QueryKinds.{each-all}
-use Rattle.contribution.proofs.WhereGood.{Each}
-use Rattle.contribution.specs.ItemKinds.{item_kinds}
+use Rattle.contribution.proofs.WhereGood.{Every}
 use Rattle.contribution.specs.MovedColumns.{PartsMoved}
 use Rattle.rewrite_core.proofs.Itself.{stands-onward}
 use Rattle.simpler_laws.proofs.Gathered.{filter-map, mapped-twice}
 use Rattle.simpler_laws.proofs.Parting.{faultless-moved}
-use Rattle.simpler_laws.proofs.TestedQueries.{by, stands-same, kinds-tested, plain-tested, tables-tested, tables-untested, formed-tested, formed-untested, meaning-tested}
+use Rattle.simpler_laws.proofs.TestedQueries.{stands-same, kinds-tested, plain-tested, tables-tested, tables-untested, formed-tested, formed-untested, meaning-tested}
 use Rattle.simpler_laws.specs.Lowered.{AreColumns, IsLowered}
 use Rattle.simpler_laws.specs.Tested.{hold, tested}
 
@@ -82,7 +82,7 @@ module _ (kinds : List Kind) (outer : List (List Kind)) where
   column-kind : (item : Item) (place : ℕ) → item.expr ≡ Col 0 place → HasKind (kinds ∷ outer) [] item.expr item.kind → slice_get kinds place ≡ Some item.kind
   column-kind item place e h = by (λ i. HasKind (kinds ∷ outer) [] (e i) item.kind) h
 
-  pub columns-kinds : (items : List Item) (places : List ℕ) → AreColumns items places → Each (λ (item : Item). HasKind (kinds ∷ outer) [] item.expr item.kind) items →
+  pub columns-kinds : (items : List Item) (places : List ℕ) → AreColumns items places → Every (λ (item : Item). HasKind (kinds ∷ outer) [] item.expr item.kind) items →
       item_kinds items ≡ kinds_in kinds places
   columns-kinds [] [] h g = refl
   columns-kinds [] (place ∷ places) h g = absurd h
@@ -90,15 +90,15 @@ module _ (kinds : List Kind) (outer : List (List Kind)) where
   columns-kinds (item ∷ items) (place ∷ places) h g =
       λ i. sym (get_or_from_slice_get kinds place item.kind kind.Text (column-kind item place h.0 g.0)) i ∷ columns-kinds items places h.1 g.1 i
 
-  pub columns-within : (items : List Item) (places : List ℕ) → AreColumns items places → Each (λ (item : Item). HasKind (kinds ∷ outer) [] item.expr item.kind) items →
-      PlacesIn (length kinds) places
+  pub columns-within : (items : List Item) (places : List ℕ) → AreColumns items places → Every (λ (item : Item). HasKind (kinds ∷ outer) [] item.expr item.kind) items →
+      PlacesWithin (length kinds) places
   columns-within [] [] h g = all-nothing (λ place. place < length kinds)
   columns-within [] (place ∷ places) h g = absurd h
   columns-within (item ∷ items) [] h g = absurd h
   columns-within (item ∷ items) (place ∷ places) h g =
       all-first (λ place. place < length kinds) place places (slice_get_within kinds place item.kind (column-kind item place h.0 g.0)) (columns-within items places h.1 g.1)
 
-  have-moved : (places : List ℕ) → PlacesIn (length kinds) places → (tests lowered : List Expr) → PartsMoved places tests lowered →
+  have-moved : (places : List ℕ) → PlacesWithin (length kinds) places → (tests lowered : List Expr) → PartsMoved places tests lowered →
       AllHave (kinds_in kinds places ∷ outer) [] tests kind.Boolean → AllHave (kinds ∷ outer) [] lowered kind.Boolean
   have-moved places within [] [] m h = tt
   have-moved places within [] (p ∷ ps) m h = absurd m

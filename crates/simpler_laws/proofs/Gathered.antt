@@ -5,7 +5,7 @@ use Rattle.bag_algebra.specs.Bags.{Row, Bag}
 use Rattle.bag_algebra.specs.Means.{holds_of, is_met, kept, met_pairs, joined_rows}
 use Rattle.bag_algebra.specs.Outcome.{Outcome, Good, Bad, is_good, and_then, mapped, both, both_then, gather}
 use Rattle.bag_algebra.specs.declared.query.JoinKind.TheVariants.{Inner}
-use Rattle.contribution.proofs.WhereGood.{Each, WhereGood}
+use Rattle.contribution.proofs.WhereGood.{Every, WhereGood}
 use Rattle.query_laws.proofs.Filtered.{put_before}
 
 -- ---- lists
@@ -54,23 +54,23 @@ filter-paired p g (u ∷ us) vs =
 -- ---- a test that each side decides in part
 
 module _ (P R : Row → Type 0) (p a b q : Row → Bool) (decide : (u v : Row) → P u → R v → p (u ++ v) ≡ (a u && (b v && q (u ++ v)))) where
-  none-left : (u : Row) (vs : Bag) → P u → Each R vs → a u ≡ false → filter (λ v. p (u ++ v)) vs ≡ []
+  none-left : (u : Row) (vs : Bag) → P u → Every R vs → a u ≡ false → filter (λ v. p (u ++ v)) vs ≡ []
   none-left u [] h k e = refl
   none-left u (v ∷ vs) h k e =
       (λ i. cond ((decide u v h k.0 ∙ ap (λ c. c && (b v && q (u ++ v))) e) i) (v ∷ none-left u vs h k.1 e i) (none-left u vs h k.1 e i))
 
-  some-left : (u : Row) (vs : Bag) → P u → Each R vs → a u ≡ true → filter (λ v. p (u ++ v)) vs ≡ filter (λ v. q (u ++ v)) (filter b vs)
+  some-left : (u : Row) (vs : Bag) → P u → Every R vs → a u ≡ true → filter (λ v. p (u ++ v)) vs ≡ filter (λ v. q (u ++ v)) (filter b vs)
   some-left u [] h k e = refl
   some-left u (v ∷ vs) h k e =
       (λ i. cond ((decide u v h k.0 ∙ ap (λ c. c && (b v && q (u ++ v))) e) i) (v ∷ some-left u vs h k.1 e i) (some-left u vs h k.1 e i))
       ∙ sym (filter-put (λ w. q (u ++ w)) (q (u ++ v)) (b v) v (filter b vs) (filter (λ w. q (u ++ w)) (filter b vs)) refl refl)
 
-  one-left : (c : Bool) (u : Row) (us vs ws : Bag) → P u → Each R vs → a u ≡ c → ws ≡ paired_where q us (filter b vs) →
+  one-left : (c : Bool) (u : Row) (us vs ws : Bag) → P u → Every R vs → a u ≡ c → ws ≡ paired_where q us (filter b vs) →
       map (λ v. u ++ v) (filter (λ v. p (u ++ v)) vs) ++ ws ≡ paired_where q (cond c (u ∷ us) us) (filter b vs)
   one-left true u us vs ws h k e rest = λ i. map (λ v. u ++ v) (some-left u vs h k e i) ++ rest i
   one-left false u us vs ws h k e rest = (λ i. map (λ v. u ++ v) (none-left u vs h k e i) ++ rest i)
 
-  pub paired-decided : (us vs : Bag) → Each P us → Each R vs → paired_where p us vs ≡ paired_where q (filter a us) (filter b vs)
+  pub paired-decided : (us vs : Bag) → Every P us → Every R vs → paired_where p us vs ≡ paired_where q (filter a us) (filter b vs)
   paired-decided [] vs h k = refl
   paired-decided (u ∷ us) vs h k = one-left (a u) u (filter a us) vs (paired_where p us vs) h.0 k refl (paired-decided us vs h.1 k)
 
@@ -130,7 +130,7 @@ mapped-both g f (Bad k) (Bad h) = refl
 
 -- two that agree on what fits, the second one over what is made of both sides
 pub both-same : (P R : Row → Type 0) (f g : Bag → Bag → Bag) (a b : Bag → Bag) →
-    ((us vs : Bag) → Each P us → Each R vs → f us vs ≡ g (a us) (b vs)) → (o p : Outcome Bag) → WhereGood (Each P) o → WhereGood (Each R) p →
+    ((us vs : Bag) → Every P us → Every R vs → f us vs ≡ g (a us) (b vs)) → (o p : Outcome Bag) → WhereGood (Every P) o → WhereGood (Every R) p →
     both f o p ≡ both g (mapped a o) (mapped b p)
 both-same P R f g a b same (Good us) (Good vs) h k = ap Good (same us vs h k)
 both-same P R f g a b same (Good us) (Bad l) h k = refl

@@ -5,6 +5,7 @@ use Rattle.std.proofs.lemmas.Bool.{and_from}
 use Rattle.std.specs.Prelude.{⊤}
 use Rattle.perm_values.specs.declared.kind.Kind.{Kind}
 use Rattle.perm_values.specs.declared.kind.Kind.TheVariants as kind
+use Rattle.perm_values.proofs.Steps.{by}
 use Rattle.bag_algebra.proofs.NeverBad.{good-value}
 use Rattle.bag_algebra.proofs.Truths.{and_true}
 use Rattle.bag_algebra.specs.Bags.{Row, Bag}
@@ -28,14 +29,15 @@ use Rattle.bag_algebra.specs.declared.query.Query.{Query}
 use Rattle.bag_algebra.specs.declared.query.Query.TheVariants.{Join}
 use Rattle.contribution.proofs.QueryKinds.{denote-fits}
 use Rattle.contribution.proofs.RowKinds.{RowFits, row_fits-length}
+use Rattle.contribution.proofs.SameTests.{all_hold-faultless}
 use Rattle.contribution.specs.Conjunctions.{all_hold}
 use Rattle.query_laws.proofs.SameExpressions.{same-itself}
 use Rattle.query_laws.proofs.StandingNodes.{stands-Join}
 use Rattle.rewrite_core.proofs.Itself.{stands-onward}
 use Rattle.simpler_laws.proofs.Gathered.{paired_where, filter-paired, paired-decided, join-good, mapped-both, both-same}
 use Rattle.simpler_laws.proofs.Parting.{three-parts, two-halves, passed, faultless-passed, faultless-moved, have-passed, left-hold, right-hold, left-have, right-have}
-use Rattle.simpler_laws.proofs.TestedQueries.{by, stands-same, kinds-tested, plain-tested, tables-tested, tables-untested, formed-tested, formed-untested, meaning-tested, all-faultless}
-use Rattle.simpler_laws.proofs.Testing.{all_hold-faultless, all_hold-formed, all_hold-met, conjuncts-formed, conjuncts-met, have-append}
+use Rattle.simpler_laws.proofs.TestedQueries.{stands-same, kinds-tested, plain-tested, tables-tested, tables-untested, formed-tested, formed-untested, meaning-tested, all-faultless}
+use Rattle.simpler_laws.proofs.Testing.{all_hold-formed, all_hold-met, conjuncts-formed, conjuncts-met, have-append}
 use Rattle.simpler_laws.specs.Conjuncts.{conjuncts}
 use Rattle.simpler_laws.specs.Sides.{is_around, is_left, is_own, is_right, is_right_alone, is_of_both, IsSplit}
 use Rattle.simpler_laws.specs.Tested.{hold, tested}

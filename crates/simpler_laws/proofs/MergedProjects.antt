@@ -1,12 +1,13 @@
 -- A projection over one to items that can't fault is one.
 use Rattle.std.proofs.Common.{◌≡◌, true, List, [], ◌∷◌, map, refl, sym, ap, ◌∙◌, subst}
 use Rattle.perm_values.specs.declared.kind.Kind.{Kind}
+use Rattle.perm_values.proofs.Steps.{by}
 use Rattle.bag_algebra.proofs.Truths.{and_true}
 use Rattle.bag_algebra.specs.Bags.{Row, Bag}
 use Rattle.bag_algebra.specs.Expressions.{value}
 use Rattle.bag_algebra.specs.FaultFree.{items_faultless}
 use Rattle.bag_algebra.specs.Inputs.{inputs_of}
-use Rattle.bag_algebra.specs.Kinds.{kinds_of}
+use Rattle.bag_algebra.specs.Kinds.{kinds_of, item_kinds}
 use Rattle.bag_algebra.specs.Meaning.{meaning, items_on}
 use Rattle.bag_algebra.specs.Means.{no_subs}
 use Rattle.bag_algebra.specs.Outcome.{Outcome, Good, Bad, and_then, both, each}
@@ -21,13 +22,12 @@ use Rattle.bag_algebra.specs.declared.query.Query.TheVariants.{Project}
 use Rattle.bag_algebra.specs.declared.query.Sublink.{Sublink}
 use Rattle.contribution.proofs.ColumnQueries.{all-nothing, all-first}
 use Rattle.contribution.proofs.QueryKinds.{each-all}
-use Rattle.contribution.proofs.WhereGood.{Each}
-use Rattle.contribution.specs.ItemKinds.{item_kinds}
+use Rattle.contribution.proofs.WhereGood.{Every}
 use Rattle.query_laws.proofs.SameExpressions.{items-themselves}
 use Rattle.query_laws.proofs.StandingNodes.{stands-Project}
 use Rattle.query_laws.specs.Standing.{SubsStand}
 use Rattle.rewrite_core.proofs.Itself.{stands-onward}
-use Rattle.simpler_laws.proofs.TestedQueries.{by, stands-same}
+use Rattle.simpler_laws.proofs.TestedQueries.{stands-same}
 use Rattle.simpler_laws.proofs.SubstitutedVariants.{item-value, rest-calm}
 use Rattle.simpler_laws.specs.merged.Substituted.{row_of_items, ItemsSubstituted, IsMerged}
 
@@ -74,7 +74,7 @@ merged-kinds lower (item ∷ upper) (other ∷ made) m = λ i. m.0.kind i ∷ me
 
 module _ (kinds : List Kind) (outer : List (List Kind)) (lower : List Item) (form : ItemsForm (kinds ∷ outer) [] lower) where
   merged-formed : (upper made : List Item) → ItemsSubstituted lower upper made →
-      Each (λ (item : Item). HasKind (item_kinds lower ∷ outer) [] item.expr item.kind) upper → ItemsForm (kinds ∷ outer) [] made
+      Every (λ (item : Item). HasKind (item_kinds lower ∷ outer) [] item.expr item.kind) upper → ItemsForm (kinds ∷ outer) [] made
   merged-formed [] [] m h = all-nothing (λ (i : Item). HasKind (kinds ∷ outer) [] i.expr i.kind)
   merged-formed [] (other ∷ made) m h = absurd m
   merged-formed (item ∷ upper) [] m h = absurd m
@@ -142,10 +142,10 @@ stands-over q input below items slice made subs list originals slice_is list_is 
     subst (λ b. Stands (Project q items originals) (Project b made subs)) (sym (taken m.under m.lower [] m.is))
     (stands-merged q input items made subs originals s t (sym list_is ∙ found.0) m)
 
-first_same : (a b : Query) → a ∷ [] ≡ b ∷ [] → a ≡ b
-first_same a b e = cc
+pub one_same : (a b : Query) → a ∷ [] ≡ b ∷ [] → a ≡ b
+one_same a b e = cc
 
 -- a projection has one input
 pub same_input : (input other : Query) (items others : List Item) (subs more : List Sublink) → Project input items subs ≡ Project other others more → input ≡ other
 same_input input other items others subs more e =
-    first_same input other (sym (ap inputs_of (Project_with-is input items subs)) ∙ ap inputs_of e ∙ ap inputs_of (Project_with-is other others more))
+    one_same input other (sym (ap inputs_of (Project_with-is input items subs)) ∙ ap inputs_of e ∙ ap inputs_of (Project_with-is other others more))

@@ -2,7 +2,7 @@
 use Rattle.std.proofs.Common.{◌≡◌, ℕ, zero, suc, ◌<◌, ◌≤◌, Bool, true, false, cond, not, List, [], ◌++◌, filter, map, Decides, refl, sym, ◌∙◌, subst, true≢false, arith}
 use Rattle.std.specs.Prelude.{⊤}
 use Rattle.perm_values.specs.Rows.{same_row}
-use Rattle.bag_algebra.proofs.BagLaws.{count-once, member_decides}
+use Rattle.bag_algebra.proofs.BagLaws.{count-once, member_decides, at_most_one}
 use Rattle.bag_algebra.proofs.TablesRead.{reads_among-itself}
 use Rattle.bag_algebra.specs.Bags.{Row, Bag, count, member, once, union_of, intersect_of, except_of}
 use Rattle.bag_algebra.specs.Meaning.{Database, meaning, arguments_on}
@@ -18,12 +18,11 @@ use Rattle.bag_algebra.specs.declared.query.Aggr.{Aggr}
 use Rattle.bag_algebra.specs.declared.query.Query.{Query}
 use Rattle.bag_algebra.specs.declared.query.Query.TheVariants.{Table, Single, Distinct, Union, Intersect, Except, Aggregate}
 use Rattle.query_laws.proofs.Grouped.{grouped-law}
-use Rattle.query_laws.proofs.Once.{at_most_one}
 use Rattle.query_laws.proofs.StandingNodes.{stands-Distinct}
 use Rattle.rewrite_core.proofs.Itself.{stands-onward}
-use Rattle.simpler_laws.proofs.TestedQueries.{by}
 use Rattle.simpler_laws.specs.merged.Once.{gives_once}
 use Rattle.std.specs.Prelude.{Contains}
+use Rattle.perm_values.proofs.Steps.{by}
 
 -- ---- bags
 

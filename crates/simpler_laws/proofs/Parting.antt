@@ -5,23 +5,23 @@ use Rattle.std.proofs.lemmas.Bool.Decides.{nat_tests}
 use Rattle.std.proofs.lemmas.List.{map-append}
 use Rattle.std.proofs.lemmas.List.Elements.{All-append}
 use Rattle.std.specs.List.{list_all, range_with_len}
-use Rattle.perm_values.specs.Rows.{picked, value_at}
+use Rattle.perm_values.specs.Rows.{picked, value_at, PlacesWithin}
 use Rattle.perm_values.specs.declared.kind.Kind.{Kind}
 use Rattle.perm_values.specs.declared.kind.Kind.TheVariants as kind
 use Rattle.perm_values.specs.declared.value.Value.TheVariants.{Null}
-use Rattle.bag_algebra.proofs.Truths.{and_true, left-true, right-true, both-true}
+use Rattle.bag_algebra.proofs.Truths.{and_true, left-true, right-true, both-true, and_turn}
 use Rattle.bag_algebra.specs.Bags.{Row}
 use Rattle.bag_algebra.specs.Expressions.{value}
 use Rattle.bag_algebra.specs.FaultFree.{faultless}
 use Rattle.bag_algebra.specs.Kinds.{kind_in, kinds_in}
 use Rattle.bag_algebra.specs.Means.{is_met}
 use Rattle.bag_algebra.specs.Outcome.{Good}
-use Rattle.bag_algebra.specs.WellFormed.{HasKind, PlacesIn}
+use Rattle.bag_algebra.specs.WellFormed.{HasKind}
 use Rattle.bag_algebra.specs.built.FaultFree.{all_parts_faultless}
 use Rattle.bag_algebra.specs.built.Forms.{AllHave}
 use Rattle.bag_algebra.specs.declared.expr.Expr.{Expr}
 use Rattle.contribution.proofs.ColumnQueries.{all-nothing, all-first}
-use Rattle.contribution.proofs.WhereGood.{Each}
+use Rattle.contribution.proofs.WhereGood.{Every}
 use Rattle.contribution.specs.MovedColumns.{IsMoved, PartsMoved}
 use Rattle.rewrite_core.proofs.Places.{at-between, within-range}
 use Rattle.simpler_laws.proofs.Reading.{value-read, kind-read}
@@ -67,27 +67,22 @@ to-front : (m a b : Bool) → (m && (a && b)) ≡ ((m && a) && b)
 to-front true a b = refl
 to-front false a b = refl
 
-to-back : (m a b : Bool) → (m && (a && b)) ≡ (a && (m && b))
-to-back true a b = refl
-to-back false true b = refl
-to-back false false b = refl
-
 module _ {X : Type 0} (holds : X → Bool) where
   one-half : (b : Bool) (x : X) (fs os : List X) (rest : Bool) → rest ≡ (list_all holds fs && list_all holds os) →
       (holds x && rest) ≡ (list_all holds (cond b (x ∷ fs) fs) && list_all holds (cond (not b) (x ∷ os) os))
   one-half true x fs os rest e = ap (λ c. holds x && c) e ∙ to-front (holds x) (list_all holds fs) (list_all holds os)
-  one-half false x fs os rest e = ap (λ c. holds x && c) e ∙ to-back (holds x) (list_all holds fs) (list_all holds os)
+  one-half false x fs os rest e = ap (λ c. holds x && c) e ∙ and_turn (holds x) (list_all holds fs) (list_all holds os)
 
   pub two-halves : (f : X → Bool) (xs : List X) → list_all holds xs ≡ (list_all holds (filter f xs) && list_all holds (filter (λ x. not (f x)) xs))
   two-halves f [] = refl
   two-halves f (x ∷ xs) = one-half (f x) x (filter f xs) (filter (λ y. not (f y)) xs) (list_all holds xs) (two-halves f xs)
 
 -- what passes a test has it
-passed-put : {X : Type 0} (test : X → Bool) (x : X) (xs : List X) (b : Bool) → test x ≡ b → Each (λ y. test y ≡ true) xs → Each (λ y. test y ≡ true) (cond b (x ∷ xs) xs)
+passed-put : {X : Type 0} (test : X → Bool) (x : X) (xs : List X) (b : Bool) → test x ≡ b → Every (λ y. test y ≡ true) xs → Every (λ y. test y ≡ true) (cond b (x ∷ xs) xs)
 passed-put test x xs true e h = (e, h)
 passed-put test x xs false e h = h
 
-pub passed : {X : Type 0} (test : X → Bool) (xs : List X) → Each (λ x. test x ≡ true) (filter test xs)
+pub passed : {X : Type 0} (test : X → Bool) (xs : List X) → Every (λ x. test x ≡ true) (filter test xs)
 passed test [] = tt
 passed test (x ∷ xs) = passed-put test x (filter test xs) (test x) refl (passed test xs)
 
@@ -160,11 +155,11 @@ length-zeros : {X : Type 0} (f : ℕ → X) (n : ℕ) → length (map f (zeros n
 length-zeros f zero = refl
 length-zeros f (suc n) = ap suc (length-zeros f n)
 
-zeros-within : (n width : ℕ) → 0 < width → PlacesIn width (zeros n)
+zeros-within : (n width : ℕ) → 0 < width → PlacesWithin width (zeros n)
 zeros-within zero width h = all-nothing (λ place. place < width)
 zeros-within (suc n) width h = all-first (λ place. place < width) 0 (zeros n) h (zeros-within n width h)
 
-pub right-within : (left right : ℕ) → 0 < right → PlacesIn right (right_places left right)
+pub right-within : (left right : ℕ) → 0 < right → PlacesWithin right (right_places left right)
 right-within left right h = All-append (λ place. place < right) (zeros left) (range_with_len 0 right) (zeros-within left right h) (within-range right 0 right (omega arith))
 
 -- ---- tests that one side decides
@@ -175,7 +170,7 @@ module _ (left right : ℕ) (u v : Row) (wide : length u ≡ left) (broad : leng
       map-append (value_at v) (zeros left) (range_with_len 0 right)
       ∙ ap (λ row. map (value_at v) (zeros left) ++ row) (all-places Null v right broad)
 
-  pub left-hold : (tests : List Expr) → Each (λ test. is_left left test ≡ true) tests → hold tests env [] (u ++ v) ≡ hold tests env [] u
+  pub left-hold : (tests : List Expr) → Every (λ test. is_left left test ≡ true) tests → hold tests env [] (u ++ v) ≡ hold tests env [] u
   left-hold [] h = refl
   left-hold (test ∷ tests) h =
       λ i. is_met (value-read false 0 left (u ++ v) u (λ place w. value-front u v place (omega (arith, wide, below place left (right-true (not (nat_lt place 0)) (nat_lt place left) w)))) env [] [] test h.0 i)
@@ -191,7 +186,7 @@ module _ (left right : ℕ) (u v : Row) (wide : length u ≡ left) (broad : leng
       env [] [] test (right-true (nat_lt 0 right) (reads_only false left (left + right) test) h)
 
   pub right-hold : (tests moved : List Expr) → PartsMoved (right_places left right) tests moved →
-      Each (λ test. is_right_alone left right test ≡ true) tests → hold tests env [] (u ++ v) ≡ hold moved env [] v
+      Every (λ test. is_right_alone left right test ≡ true) tests → hold tests env [] (u ++ v) ≡ hold moved env [] v
   right-hold [] [] m h = refl
   right-hold [] (p ∷ ps) m h = absurd m
   right-hold (test ∷ tests) [] m h = absurd m
@@ -202,7 +197,7 @@ module _ (left right : ℕ) (u v : Row) (wide : length u ≡ left) (broad : leng
 -- ---- their kinds
 
 module _ (lefts rights : List Kind) (outer : List (List Kind)) (k : Kind) where
-  pub left-have : (tests : List Expr) → Each (λ test. is_left (length lefts) test ≡ true) tests → AllHave ((lefts ++ rights) ∷ outer) [] tests k →
+  pub left-have : (tests : List Expr) → Every (λ test. is_left (length lefts) test ≡ true) tests → AllHave ((lefts ++ rights) ∷ outer) [] tests k →
       AllHave (lefts ∷ outer) [] tests k
   left-have [] h g = tt
   left-have (test ∷ tests) h g = (
@@ -231,7 +226,7 @@ module _ (lefts rights : List Kind) (outer : List (List Kind)) (k : Kind) where
       ∙ ap (λ kinds. slice_get kinds place) (sym kinds-right))
       outer [] [] test k (right-true (nat_lt 0 (length rights)) (reads_only false (length lefts) (length lefts + length rights) test) h) g)
 
-  pub right-have : (tests moved : List Expr) → PartsMoved order tests moved → Each (λ test. is_right_alone (length lefts) (length rights) test ≡ true) tests →
+  pub right-have : (tests moved : List Expr) → PartsMoved order tests moved → Every (λ test. is_right_alone (length lefts) (length rights) test ≡ true) tests →
       AllHave ((lefts ++ rights) ∷ outer) [] tests k → AllHave (rights ∷ outer) [] moved k
   right-have [] [] m h g = tt
   right-have [] (p ∷ ps) m h g = absurd m

@@ -1,5 +1,6 @@
 -- An inner join with the one row of no columns is the other side.
 use Rattle.std.proofs.Common.{◌≡◌, true, [], ◌∷◌, ◌++◌, map, filter, append-nil, refl, sym, ap, ◌∙◌, subst}
+use Rattle.perm_values.proofs.Steps.{by}
 use Rattle.bag_algebra.specs.Bags.{Bag}
 use Rattle.bag_algebra.specs.Kinds.{kinds_of}
 use Rattle.bag_algebra.specs.Meaning.{meaning}
@@ -14,7 +15,7 @@ use Rattle.contribution.specs.Conjunctions.{all_hold}
 use Rattle.rewrite_core.proofs.Itself.{stands-onward}
 use Rattle.simpler_laws.proofs.Gathered.{paired_where, filter-all}
 use Rattle.simpler_laws.proofs.InnerJoins.{meaning-join, stands-inner}
-use Rattle.simpler_laws.proofs.TestedQueries.{by, stands-same}
+use Rattle.simpler_laws.proofs.TestedQueries.{stands-same}
 
 -- ---- pairs
 

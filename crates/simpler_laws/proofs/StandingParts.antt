@@ -1,27 +1,11 @@
 -- What is made for a part stands for it, in lists and in results.
-use Rattle.std.specs.Prelude.{⊤, OnOk}
-use Rattle.std.proofs.Common.{◌≡◌, ℕ, zero, suc, ◌<◌, Bool, ◌&&◌, IsTrue, List, [], ◌∷◌, ◌++◌, length, get_or, Result, Ok, Err, IfOk, sym, ap, ◌∙◌, subst, arith}
+use Rattle.std.proofs.Common.{◌≡◌, ℕ, zero, suc, ◌<◌, Bool, ◌&&◌, IsTrue, List, [], ◌∷◌, length, get_or, Result, IfOk, sym, ap, ◌∙◌, subst, arith}
 use Rattle.perm_values.specs.declared.no_memory.NoMemory.{NoMemory}
+use Rattle.perm_values.proofs.Results.{where_made}
 use Rattle.bag_algebra.proofs.Truths.{left-true, right-true}
 use Rattle.bag_algebra.specs.Rewriting.{Stands}
 use Rattle.bag_algebra.specs.declared.query.Query.{Query}
 use Rattle.bag_algebra.specs.declared.query.Sublink.{Sublink}
-use Rattle.query_laws.specs.Standing.{SubStands, SubsStand}
-
-pub appended : {X : Type 0} (P : List X → Type 0) (xs ys : List X) (result : Result ⊤ NoMemory) → OnOk result (ys ≡ xs) → P xs → OnOk result (P ys)
-appended P xs ys (Ok done) e p = subst P (sym e) p
-appended P xs ys (Err error) e p = tt
-
-pub stand-more : (subs others : List Sublink) (sub other : Sublink) → SubsStand subs others → SubStands sub other →
-    SubsStand (subs ++ sub ∷ []) (others ++ other ∷ [])
-stand-more [] [] sub other s t = (t, tt)
-stand-more [] (another ∷ others) sub other s t = absurd s
-stand-more (first ∷ subs) [] sub other s t = absurd s
-stand-more (first ∷ subs) (another ∷ others) sub other s t = (s.0, stand-more subs others sub other s.1 t)
-
-pub where_made : {X : Type 0} (P R : X → Type 0) (result : Result X NoMemory) → ((x : X) → P x → R x) → IfOk result P → IfOk result R
-where_made P R (Ok x) f p = f x p
-where_made P R (Err error) f p = tt
 
 module _ (q node : Query) (result : Result Query NoMemory) (is : q ≡ node) where
   pub stands_made : (made : Query) → IfOk result (λ p. p ≡ made) → Stands node made → IfOk result (λ p. Stands q p)

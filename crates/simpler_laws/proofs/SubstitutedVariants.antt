@@ -1,26 +1,28 @@
 -- Each variant of an expression is substituted in where its parts are.
-use Rattle.std.proofs.Common.{◌≡◌, ℕ, zero, suc, ◌≤◌, ◌<◌, Bool, true, ◌&&◌, List, [], ◌∷◌, length, Some, None, refl, sym, ap, ◌∙◌, subst, arith, get_or}
+use Rattle.std.proofs.Common.{◌≡◌, ℕ, zero, suc, ◌≤◌, ◌<◌, Bool, true, ◌&&◌, List, [], ◌∷◌, length, Some, refl, sym, ap, ◌∙◌, subst, arith, get_or}
+use Rattle.std.proofs.lemmas.Option.{same_Some}
 use Rattle.std.specs.Prelude.{slice_get}
 use mathlib.Core.Bool.{beq}
-use Rattle.null_logic.specs.Comparison.{is_null}
 use Rattle.null_logic.specs.declared.arith.Arith.{Arith}
 use Rattle.null_logic.specs.declared.operator.Operator.{Operator}
 use Rattle.null_logic.specs.declared.truth.Truth.{Truth}
 use Rattle.perm_values.specs.Rows.{value_at}
-use Rattle.perm_values.specs.Values.{same_value}
+use Rattle.perm_values.specs.Values.{same_value, is_null}
 use Rattle.perm_values.specs.declared.kind.Kind.{Kind}
 use Rattle.perm_values.specs.declared.kind.Kind.TheVariants.{Integer, Text, Boolean}
 use Rattle.perm_values.specs.declared.value.Value.{Value}
 use Rattle.perm_values.specs.declared.value.Value.TheVariants as cell
 use Rattle.bag_algebra.proofs.Forms.{alike-kept, op_form-kept}
 use Rattle.bag_algebra.proofs.NeverBad.{good-value}
+use Rattle.bag_algebra.proofs.Outcomes.{good_value-is}
 use Rattle.bag_algebra.proofs.Truths.{left-true, right-true}
 use Rattle.bag_algebra.specs.Bags.{Row}
 use Rattle.bag_algebra.specs.built.Openings.{row_of_parts, row_of_steps, row_of_arms, shape_of_steps, shape_of_arms, Chain-is, Case-is, IsNull-is, IsTruth-is, Same-is}
 use Rattle.bag_algebra.specs.Expressions.{value, values, step_values, arm_value, Step, operate, chain, has_truth, chosen_arm}
 use Rattle.bag_algebra.specs.FaultFree.{faultless, items_faultless}
+use Rattle.bag_algebra.specs.Kinds.{item_kinds}
 use Rattle.bag_algebra.specs.Means.{good_value}
-use Rattle.bag_algebra.specs.Outcome.{Outcome, Good, Bad, is_good, and_then, mapped, both, both_then}
+use Rattle.bag_algebra.specs.Outcome.{Outcome, Good, and_then, mapped, both, both_then}
 use Rattle.bag_algebra.specs.built.Patterns.{ChainOf, CaseOf, IsNullOf, IsTruthOf, SameOf}
 use Rattle.bag_algebra.specs.WellFormed.{HasKind, PartsHave, StepsHave, ArmsHave, ItemsForm, op_form, is_additive, steps_are, number_of_parts, number_of_steps, number_of_arms}
 use Rattle.bag_algebra.specs.declared.expr.Arm.{Arm}
@@ -30,21 +32,16 @@ use Rattle.bag_algebra.specs.declared.expr.Expr.TheBlock.{shape-the_row-Expr-0, 
 use Rattle.bag_algebra.specs.declared.expr.Expr.TheVariants.{Col, Lit, Op, Chain, Case, IsNull, IsTruth, Same}
 use Rattle.bag_algebra.specs.declared.expr.Item.{Item}
 use Rattle.contribution.proofs.QueryKinds.{each-all}
-use Rattle.contribution.proofs.WhereGood.{Each}
-use Rattle.contribution.specs.ItemKinds.{item_kinds}
-use Rattle.std.proofs.Common.{true≢false}
+use Rattle.contribution.proofs.WhereGood.{Every}
+use Rattle.query_laws.proofs.PlacedVariants.{kinds-beyond}
 use Rattle.simpler_laws.specs.merged.Substituted.{row_of_items, IsSubstituted, PartsSubstituted, StepsSubstituted, ArmsSubstituted}
 
 -- ---- columns
 
-the_good : (o : Outcome Value) → is_good o ≡ true → o ≡ Good (good_value o)
-the_good (Good v) h = refl
-the_good (Bad faults) h = absurd (true≢false (sym h))
-
 pub item-value : (item : Item) (items : List Item) → items_faultless (item ∷ items) ≡ true → (u : Row) (env : List Row) (subs : List Value) →
     value item.expr u env subs ≡ Good (good_value (value item.expr u env subs))
 item-value item items calm u env subs =
-    the_good (value item.expr u env subs) (good-value item.expr (left-true (faultless item.expr) (items_faultless items) calm) u env subs)
+    good_value-is (value item.expr u env subs) (good-value item.expr (left-true (faultless item.expr) (items_faultless items) calm) u env subs)
 
 pub rest-calm : (item : Item) (items : List Item) → items_faultless (item ∷ items) ≡ true → items_faultless items ≡ true
 rest-calm item items calm = right-true (faultless item.expr) (items_faultless items) calm
@@ -56,18 +53,12 @@ column-value (first ∷ lower) zero item low is calm u env subs =
     ap (λ (i : Item). value i.expr u env subs) is ∙ item-value first lower calm u env subs
 column-value (first ∷ lower) (suc place) item low is calm u env subs = column-value lower place item (omega (arith, low)) is (rest-calm first lower calm) u env subs
 
-the_one : {A : Type 0} {a b : A} → Some a ≡ Some b → a ≡ b
-the_one e = cc
-
-none_there : {A : Type 0} (k : Kind) → None ≡ Some k → A
-none_there k e = cc
-
 module _ (scopes : List (List Kind)) (subs : List Kind) where
   column-formed : (lower : List Item) (place : ℕ) (item : Item) (kind : Kind) → place < length lower → item ≡ get_or lower place item →
-      Each (λ (i : Item). HasKind scopes subs i.expr i.kind) lower → slice_get (item_kinds lower) place ≡ Some kind → HasKind scopes subs item.expr kind
+      Every (λ (i : Item). HasKind scopes subs i.expr i.kind) lower → slice_get (item_kinds lower) place ≡ Some kind → HasKind scopes subs item.expr kind
   column-formed [] place item kind low is h e = absurd (omega (arith, low))
   column-formed (first ∷ lower) zero item kind low is h e =
-      subst (λ (i : Item). HasKind scopes subs i.expr kind) (sym is) (subst (HasKind scopes subs first.expr) (the_one e) h.0)
+      subst (λ (i : Item). HasKind scopes subs i.expr kind) (sym is) (subst (HasKind scopes subs first.expr) (same_Some _ _ e) h.0)
   column-formed (first ∷ lower) (suc place) item kind low is h e = column-formed lower place item kind (omega (arith, low)) is h.1 e
 
 pub substituted-column : (lower : List Item) (place : ℕ) (item : Item) → place < length lower → item ≡ get_or lower place item →
@@ -83,15 +74,10 @@ beyond-value [] place u env subs beyond = refl
 beyond-value (item ∷ lower) zero u env subs beyond = absurd (omega (arith, beyond))
 beyond-value (item ∷ lower) (suc place) u env subs beyond = beyond-value lower place u env subs (omega (arith, beyond))
 
-beyond-kind : {A : Type 0} (lower : List Item) (place : ℕ) (kind : Kind) → length lower ≤ place → slice_get (item_kinds lower) place ≡ Some kind → A
-beyond-kind [] place kind beyond e = none_there kind e
-beyond-kind (item ∷ lower) zero kind beyond e = absurd (omega (arith, beyond))
-beyond-kind (item ∷ lower) (suc place) kind beyond e = beyond-kind lower place kind (omega (arith, beyond)) e
-
 pub substituted-none : (lower : List Item) (place : ℕ) → length lower ≤ place → IsSubstituted lower (Col 0 place) (Lit cell.Null Text)
 substituted-none lower place beyond = record {
   value = λ calm u env subs. ap Good (beyond-value lower place u env subs beyond);
-  kind = λ kinds outer subs kind form h. beyond-kind lower place kind beyond h;
+  kind = λ kinds outer subs kind form h. absurd (kinds-beyond lower place kind beyond h);
 }
 
 module _ (lower : List Item) where

@@ -4,7 +4,9 @@ use Rattle.std.proofs.lemmas.List.Folds.{list_all-append}
 use Rattle.std.specs.Prelude.{⊤}
 use Rattle.perm_values.specs.declared.kind.Kind.{Kind}
 use Rattle.perm_values.specs.declared.kind.Kind.TheVariants as kind
+use Rattle.perm_values.proofs.Steps.{by}
 use Rattle.bag_algebra.proofs.NeverBad.{good-value}
+use Rattle.bag_algebra.proofs.Outcomes.{same_rows-itself}
 use Rattle.bag_algebra.proofs.TablesRead.{reads_among-itself}
 use Rattle.bag_algebra.proofs.Truths.{and_true, both-true}
 use Rattle.bag_algebra.specs.Bags.{Row, Bag}
@@ -26,22 +28,16 @@ use Rattle.bag_algebra.specs.declared.expr.Expr.{Expr}
 use Rattle.bag_algebra.specs.declared.query.Query.{Query}
 use Rattle.bag_algebra.specs.declared.query.Query.TheVariants.{Filter}
 use Rattle.contribution.specs.Conjunctions.{all_hold}
+use Rattle.contribution.proofs.SameTests.{all_hold-faultless}
 use Rattle.query_laws.proofs.SameExpressions.{same-itself}
 use Rattle.query_laws.proofs.StandingNodes.{stands-Filter}
 use Rattle.simpler_laws.proofs.Gathered.{filter-all, filter-good, filter-twice, mapped-twice}
-use Rattle.simpler_laws.proofs.Testing.{all_hold-faultless, all_hold-formed, all_hold-met, all_hold-opened, conjuncts-faultless, conjuncts-formed, conjuncts-met, have-append}
+use Rattle.simpler_laws.proofs.Testing.{all_hold-formed, all_hold-met, all_hold-opened, conjuncts-faultless, conjuncts-formed, conjuncts-met, have-append}
 use Rattle.simpler_laws.specs.Conjuncts.{conjuncts}
 use Rattle.simpler_laws.specs.Tested.{hold, tested}
 
--- what one type has, an equal one has
-pub by : {A B : Type 0} → A ≡ B → A → B
-by e a = subst (λ (X : Type 0). X) e a
-
 same_outcomes : (o p : Outcome Bag) → o ≡ p → SameRows o p
-same_outcomes o p e = subst (SameRows o) e (itself o) where
-  itself : (o : Outcome Bag) → SameRows o o
-  itself (Good us) = record { counts = λ t. refl }
-  itself (Bad faults) = refl
+same_outcomes o p e = subst (SameRows o) e (same_rows-itself o)
 
 -- what stands for a query by meaning the very same, with the same kinds wherever the query is well formed
 pub stands-equal : (n m : Query) → is_plain m ≡ true → ((outer : List (List Kind)) → WellFormed outer n → kinds_of m ≡ kinds_of n) →

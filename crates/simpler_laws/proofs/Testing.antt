@@ -1,5 +1,5 @@
 -- Tests taken together are true where each is; so are the conjuncts of a condition.
-use Rattle.std.proofs.Common.{◌≡◌, ◌≤◌, ℕ, Bool, true, false, cond, not, ◌&&◌, List, [], ◌∷◌, ◌++◌, length, refl, sym, ap, subst, ◌∙◌, true≢false, arith}
+use Rattle.std.proofs.Common.{◌≡◌, ◌≤◌, ℕ, true, false, cond, not, ◌&&◌, List, [], ◌∷◌, ◌++◌, length, refl, sym, ap, subst, ◌∙◌, true≢false, arith}
 use Rattle.std.proofs.lemmas.List.Folds.{list_all-append}
 use Rattle.std.specs.Prelude.{⊤}
 use Rattle.null_logic.specs.Logic.{truth_and, truth_of, value_of, is_true}
@@ -11,6 +11,7 @@ use Rattle.perm_values.specs.declared.kind.Kind.{Kind}
 use Rattle.perm_values.specs.declared.kind.Kind.TheVariants as kind
 use Rattle.perm_values.specs.declared.value.Value.{Value}
 use Rattle.perm_values.specs.declared.value.Value.TheVariants.{Null, Integer, Text, Boolean}
+use Rattle.bag_algebra.proofs.BagLaws.{and_false}
 use Rattle.bag_algebra.proofs.Truths.{and_true, left-true, right-true, both-true}
 use Rattle.bag_algebra.specs.Bags.{Row}
 use Rattle.bag_algebra.specs.Children.{part_values}
@@ -19,7 +20,7 @@ use Rattle.bag_algebra.specs.FaultFree.{faultless, parts_faultless}
 use Rattle.bag_algebra.specs.Means.{is_met}
 use Rattle.bag_algebra.specs.Outcome.{Outcome, Good, Bad, and_then, both}
 use Rattle.bag_algebra.specs.WellFormed.{HasKind, PartsHave}
-use Rattle.bag_algebra.specs.built.FaultFree.{all_parts_faultless, faultless-Op}
+use Rattle.bag_algebra.specs.built.FaultFree.{all_parts_faultless}
 use Rattle.bag_algebra.specs.built.Forms.{AllHave, parts_have-built, parts_have-opened, number_of_parts-built}
 use Rattle.bag_algebra.specs.built.Openings.{value-Op}
 use Rattle.bag_algebra.specs.built.Patterns.{OpOf, ChainOf, CaseOf, IsNullOf, IsTruthOf, SameOf}
@@ -42,10 +43,6 @@ and-truths Unknown True = refl
 and-truths Unknown False = refl
 and-truths Unknown Unknown = refl
 
-and_false : (b : Bool) → false ≡ (b && false)
-and_false true = refl
-and_false false = refl
-
 -- AND of one more part is true where the part is and AND of the others is
 and-step : (o : Outcome Value) (p : Outcome (List Value)) →
     is_met (and_then (both (λ v vs. v ∷ vs) o p) (operate op.And)) ≡ (is_met o && is_met (and_then p (operate op.And)))
@@ -63,11 +60,6 @@ module _ (u : Row) (env : List Row) (subs : List Value) where
   all_hold-met [] = refl
   all_hold-met (test ∷ []) = sym (and_true (is_met (value test u env subs)))
   all_hold-met (test ∷ other ∷ tests) = ap is_met (value-Op u env subs op.And (test ∷ other ∷ tests)) ∙ and-met (test ∷ other ∷ tests)
-
-pub all_hold-faultless : (tests : List Expr) → all_parts_faultless tests ≡ true → faultless (all_hold tests) ≡ true
-all_hold-faultless [] h = refl
-all_hold-faultless (test ∷ []) h = sym (and_true (faultless test)) ∙ h
-all_hold-faultless (test ∷ other ∷ tests) h = faultless-Op op.And (test ∷ other ∷ tests) ∙ h
 
 module _ (scopes : List (List Kind)) (subs : List Kind) where
   pub all_hold-formed : (tests : List Expr) → AllHave scopes subs tests kind.Boolean → HasKind scopes subs (all_hold tests) kind.Boolean

@@ -1,25 +1,11 @@
 -- The conjuncts of a condition: it is true where all of them are (ISO/IEC 9075-2, 'boolean value expression').
-use Rattle.std.specs.Prelude.{Bool, true, false, cond, List, [], ◌∷◌, ◌++◌}
-use Rattle.null_logic.specs.declared.operator.Operator.{Operator}
-use Rattle.null_logic.specs.declared.operator.Operator.TheVariants as op
+use Rattle.std.specs.Prelude.{Bool, false, cond, List, [], ◌∷◌, ◌++◌}
+use Rattle.null_logic.specs.Operators.{is_and}
 use Rattle.perm_values.specs.declared.value.Value.{Value}
 use Rattle.perm_values.specs.declared.value.Value.TheVariants.{Null, Integer, Text, Boolean}
 use Rattle.bag_algebra.specs.built.Patterns.{OpOf, ChainOf, CaseOf, IsNullOf, IsTruthOf, SameOf}
 use Rattle.bag_algebra.specs.declared.expr.Expr.{Expr, Row_of-Expr, more_of-Expr, end_of-Expr}
 use Rattle.bag_algebra.specs.declared.expr.Expr.TheVariants.{Col, Lit, Sub}
-
-abbrev pub is_and : Operator → Bool
-is_and op.And = true
-is_and op.Or = false
-is_and op.Not = false
-is_and op.Negate = false
-is_and (op.Compare c) = false
-is_and (op.Arith c) = false
-is_and op.Like = false
-is_and op.Between = false
-is_and op.InList = false
-is_and op.Coalesce = false
-is_and op.NullIf = false
 
 -- TRUE
 abbrev pub is_always : Value → Bool

@@ -1,12 +1,13 @@
 //! The conjuncts of a condition, and a condition of such.
 ghost use Rattle.std.specs.Prelude.{◌≡◌, ◌∷◌, ◌++◌, [], IfOk};
+ghost use Rattle.null_logic.specs.Operators.{is_and};
 ghost use Rattle.contribution.specs.Conjunctions.{all_hold};
-ghost use Rattle.simpler_laws.specs.Conjuncts.{conjuncts, is_always, is_and};
+ghost use Rattle.simpler_laws.specs.Conjuncts.{conjuncts, is_always};
 ghost use Rattle.simpler_laws.specs.built.Conjuncts.{all_conjuncts};
 
 use bag_algebra::Expr;
 use contribution::always;
-use null_logic::Operator;
+use null_logic::{Operator, is_and};
 use perm_values::{Copyable, List, NoMemory, Value};
 use std::alloc::Global;
 
@@ -56,12 +57,6 @@ fn alone(alloc: Global, condition: &Expr) -> Result<List<Expr>, NoMemory>
     let mut found = List::new(alloc);
     found.push(condition.copy(alloc)?)?;
     Ok(found)
-}
-
-fn is_and(op: Operator) -> bool
-    ensures { result ≡ is_and op }
-{
-    matches!(op, Operator::And)
 }
 
 /// Whether the value is TRUE. It takes no memory.

@@ -1,13 +1,12 @@
 //! The conjuncts of a filter with sublinks by whether they need these.
 ghost use Rattle.std.specs.Prelude.{◌≡◌, ◌++◌, filter, IfOk, IsTrue};
-ghost use Rattle.bag_algebra.specs.built.FaultFree.{all_fault_free};
 ghost use Rattle.simpler_laws.specs.Conjuncts.{conjuncts};
 ghost use Rattle.simpler_laws.specs.Parts.{is_bound, is_free, IsParted};
 
 use crate::columns::reads_only;
 use crate::conditions::conjuncts;
 use crate::pairs::add_where;
-use bag_algebra::{Expr, SubKind, Sublink, fault_free, faultless};
+use bag_algebra::Expr;
 use perm_values::{List, NoMemory, both};
 use std::alloc::Global;
 
@@ -59,21 +58,4 @@ fn bound(alloc: Global, all: &[Expr]) -> Result<List<Expr>, NoMemory>
         add_where(alloc, &mut found, goes, test)?;
     }
     Ok(found)
-}
-
-/// Whether no sublink can meet a fault: none is a scalar one, and what they test and their queries can't. It takes no memory.
-pub fn all_fault_free(subs: &[Sublink]) -> bool
-    ensures { result ≡ all_fault_free subs.now }
-{
-    for sub in subs {
-        if matches!(sub.kind, SubKind::Scalar) || !fault_free(&sub.query) {
-            return false;
-        }
-        if let Some(tested) = &sub.tested {
-            if !faultless(tested) {
-                return false;
-            }
-        }
-    }
-    true
 }

@@ -8,10 +8,10 @@ ghost use Rattle.simpler_laws.specs.Sides.{is_around, is_left, is_of_both, is_ow
 
 use crate::columns::reads_only;
 use crate::conditions::with_conjuncts;
-use bag_algebra::{Expr, Query};
+use bag_algebra::{Expr, Query, exact_width};
 use contribution::moved;
 use perm_values::{Copyable, List, NoMemory, four};
-use rewrite_core::{exact_width, sum};
+use rewrite_core::sum;
 use std::alloc::Global;
 
 /// Tests of pairs: those that left rows decide alone; those that right rows do, over the columns of these; those that need

@@ -5,6 +5,6 @@ mod sublinks;
 
 pub use nodes::{
     aggregate_standing, apply_standing, except_standing, filter_standing, intersect_standing,
-    join_standing, limit_standing, project_standing, table, union_standing,
+    join_standing, limit_standing, project_standing, union_standing,
 };
 pub use sublinks::add_standing;

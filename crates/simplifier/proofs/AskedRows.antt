@@ -1,16 +1,17 @@
 -- What an EXISTS or an ANY over a spine asks of a row is true exactly where some row of the spine's base meets the test.
 use Rattle.std.proofs.Common.{◌≡◌, ◌≤◌, ◌<◌, Bool, true, false, cond, ◌&&◌, ◌||◌, List, [], ◌∷◌, ◌++◌, length, get_or, map, Option, Some, None, refl, sym, ap, ◌∙◌, subst, arith}
 use Rattle.std.specs.List.{list_any}
-use Rattle.null_logic.specs.Comparison.{compare_values, is_null}
-use Rattle.null_logic.specs.Logic.{is_true, truth_and, truth_of, value_of}
+use Rattle.null_logic.specs.Comparison.{compare_values}
+use Rattle.null_logic.specs.Logic.{is_true, truth_of, value_of}
 use Rattle.null_logic.specs.declared.compare.Compare.{Compare}
 use Rattle.null_logic.specs.declared.operator.Operator.TheVariants as op
-use Rattle.null_logic.specs.declared.truth.Truth.{Truth}
-use Rattle.null_logic.specs.declared.truth.Truth.TheVariants.{True, False, Unknown}
+use Rattle.null_logic.specs.declared.truth.Truth.TheVariants.{True}
 use Rattle.perm_values.specs.declared.kind.Kind.{Kind}
 use Rattle.perm_values.specs.declared.value.Value.{Value}
 use Rattle.perm_values.specs.declared.value.Value.TheVariants.{Boolean, Null}
 use Rattle.bag_algebra.proofs.NeverBad.{good-value}
+use Rattle.bag_algebra.proofs.Outcomes.{good-is}
+use Rattle.bag_algebra.proofs.TruthValues.{holds-boolean, holds-truth, holds-both}
 use Rattle.bag_algebra.proofs.Truths.{left-true, right-true}
 use Rattle.bag_algebra.specs.Bags.{Row, Bag}
 use Rattle.bag_algebra.specs.Expressions.{operate, value}
@@ -18,7 +19,7 @@ use Rattle.bag_algebra.specs.FaultFree.{faultless, items_faultless}
 use Rattle.bag_algebra.specs.Fits.{row_begins}
 use Rattle.bag_algebra.specs.Meaning.{items_on, optional_value}
 use Rattle.bag_algebra.specs.Means.{cell, comparisons, holds_of, is_met, is_some_row, no_subs, some_of, sub_value}
-use Rattle.bag_algebra.specs.Outcome.{Outcome, Good, Bad, and_then, mapped, both, both_then, gather, is_good}
+use Rattle.bag_algebra.specs.Outcome.{Outcome, Good, Bad, and_then, mapped, both, both_then, gather}
 use Rattle.bag_algebra.specs.WellFormed.{sub_form}
 use Rattle.bag_algebra.specs.built.FaultFree.{all_parts_faultless, faultless-IsTruth, faultless-Op}
 use Rattle.bag_algebra.specs.built.Openings.{value-IsTruth, value-Op}
@@ -27,11 +28,13 @@ use Rattle.bag_algebra.specs.declared.expr.Expr.TheVariants.{Op}
 use Rattle.bag_algebra.specs.declared.expr.Item.{Item}
 use Rattle.bag_algebra.specs.declared.query.Sublink.{Sublink}
 use Rattle.bag_algebra.specs.declared.query.SubKind.TheVariants.{Any, Exists}
+use Rattle.contribution.specs.Conjunctions.{condition_or_true}
 use Rattle.contribution.proofs.AddedColumns.{columns-added}
 use Rattle.contribution.proofs.Growth.{tested-same}
+use Rattle.contribution.proofs.TruthKept.{some_of-is_true}
 use Rattle.query_laws.proofs.SpineItems.{items-good, row_by}
 use Rattle.query_laws.proofs.SpineRows.{spine_row, where_holds}
-use Rattle.query_laws.specs.spines.Spines.{test_of, tests_with}
+use Rattle.query_laws.specs.spines.Spines.{tests_with}
 use Rattle.query_laws.specs.declared.spines.spine.Spine.{Spine}
 use Rattle.simplifier.specs.Forced.{Asks, compared, for_any, for_some}
 
@@ -42,40 +45,6 @@ only (y ∷ []) x h k e = ap (λ z. z ∷ []) (sym e)
 only (y ∷ z ∷ xs) x h k e = absurd (omega (arith, k))
 
 -- ---- truths
-
-pub good-is : {X : Type 0} (o : Outcome X) → is_good o ≡ true → (v : X) × (o ≡ Good v)
-good-is (Good v) e = (v, refl)
-good-is (Bad faults) e = absurd (cc e)
-
-holds-known : (t : Truth) → holds_of (value_of t) ≡ is_true t
-holds-known True = refl
-holds-known False = refl
-holds-known Unknown = refl
-
-holds-boolean : (b : Bool) → holds_of (Boolean b) ≡ b
-holds-boolean true = refl
-holds-boolean false = refl
-
-both-hold : (a b : Truth) → is_true (truth_of (value_of (truth_and a (truth_and b True)))) ≡ (is_true a && is_true b)
-both-hold True True = refl
-both-hold True False = refl
-both-hold True Unknown = refl
-both-hold False True = refl
-both-hold False False = refl
-both-hold False Unknown = refl
-both-hold Unknown True = refl
-both-hold Unknown False = refl
-both-hold Unknown Unknown = refl
-
-some-is : (ts : List Truth) → is_true (some_of ts) ≡ list_any is_true ts
-some-is ts = by_some (list_any is_true ts) where
-  by_rest : (b : Bool) → is_true (cond b Unknown False) ≡ false
-  by_rest true = refl
-  by_rest false = refl
-
-  by_some : (b : Bool) → is_true (cond b True (cond (list_any (λ t. is_null (value_of t)) ts) Unknown False)) ≡ b
-  by_some true = refl
-  by_some false = by_rest (list_any (λ t. is_null (value_of t)) ts)
 
 any-map : {X Y : Type 0} (f : X → Y) (p : Y → Bool) (xs : List X) → list_any p (map f xs) ≡ list_any (λ x. p (f x)) xs
 any-map f p [] = refl
@@ -132,7 +101,7 @@ any-holds : (c : Compare) (x : Value) (rows : Outcome Bag) (found : Bool) → ma
 any-holds c x (Good bag) found e = record {
   given = value_of (some_of (comparisons c x bag));
   good = refl;
-  holds = holds-known (some_of (comparisons c x bag)) ∙ some-is (comparisons c x bag) ∙ any-map (λ row. compare_values c x (cell row)) is_true bag
+  holds = holds-truth (some_of (comparisons c x bag)) ∙ some_of-is_true (comparisons c x bag) ∙ any-map (λ row. compare_values c x (cell row)) is_true bag
       ∙ good_same (list_any (λ row. is_true (compare_values c x (cell row))) bag) found e;
 }
 any-holds c x (Bad faults) found e = absurd (cc e)
@@ -153,13 +122,13 @@ compared-is c e f y env x z first second =
     ∙ (λ i. and_then (both (λ v vs. v ∷ vs) (first i) (both (λ v vs. v ∷ vs) (second i) (Good []))) (operate (op.Compare c))))
 
 -- a test and a good one more
-with-met : (test : Option Expr) (other : Expr) (y : Row) (env : List Row) (w : Value) (a : Value) → value (test_of test) y env [] ≡ Good a → value other y env [] ≡ Good w
-    → is_met (value (tests_with test other) y env []) ≡ (is_met (value (test_of test) y env []) && holds_of w)
+with-met : (test : Option Expr) (other : Expr) (y : Row) (env : List Row) (w : Value) (a : Value) → value (condition_or_true test) y env [] ≡ Good a → value other y env [] ≡ Good w
+    → is_met (value (tests_with test other) y env []) ≡ (is_met (value (condition_or_true test) y env []) && holds_of w)
 with-met None other y env w a first second = ap is_met second
 with-met (Some test) other y env w a first second =
     ap is_met (value-Op y env [] op.And (test ∷ other ∷ [])
     ∙ (λ i. and_then (both (λ v vs. v ∷ vs) (first i) (both (λ v vs. v ∷ vs) (second i) (Good []))) (operate op.And)))
-    ∙ both-hold (truth_of a) (truth_of w) ∙ ap (λ o. is_met o && holds_of w) (sym first)
+    ∙ holds-both (truth_of a) (truth_of w) ∙ ap (λ o. is_met o && holds_of w) (sym first)
 
 -- ---- a sublink over a spine
 
@@ -167,7 +136,7 @@ module _ (kinds below : List Kind) (outer : List (List Kind)) (sub : Sublink) (s
     (items : items_faultless spine.items ≡ true) (env : List Row) (u : Row) (begins : row_begins u kinds ≡ true)
     (fitting : sub_form sub.kind sub.tested (kinds ∷ outer) below) (vs : Bag) where
   abbrev of_spine : Row → Outcome Value
-  of_spine v = value (test_of spine.test) (u ++ v) env []
+  of_spine v = value (condition_or_true spine.test) (u ++ v) env []
 
   abbrev rows : Outcome Bag
   rows = gather (λ v. spine_row spine env (u ++ v)) vs
@@ -175,10 +144,10 @@ module _ (kinds below : List Kind) (outer : List (List Kind)) (sub : Sublink) (s
   abbrev found : Bool
   found = list_any (λ v. is_met (value on (u ++ v) env [])) vs
 
-  by_rows : (p : Row → Bool) → faultless (test_of spine.test) ≡ true → ((v : Row) → (is_met (of_spine v) && p (row_by spine.items env (u ++ v))) ≡ is_met (value on (u ++ v) env []))
+  by_rows : (p : Row → Bool) → faultless (condition_or_true spine.test) ≡ true → ((v : Row) → (is_met (of_spine v) && p (row_by spine.items env (u ++ v))) ≡ is_met (value on (u ++ v) env []))
       → mapped (list_any p) rows ≡ Good found
   by_rows p still same =
-      any-found (λ v. row_by spine.items env (u ++ v)) of_spine (λ v. good-is (of_spine v) (good-value (test_of spine.test) still (u ++ v) env [])) p vs
+      any-found (λ v. row_by spine.items env (u ++ v)) of_spine (λ v. good-is (of_spine v) (good-value (condition_or_true spine.test) still (u ++ v) env [])) p vs
       ∙ ap Good (any-same (λ v. is_met (of_spine v) && p (row_by spine.items env (u ++ v))) (λ v. is_met (value on (u ++ v) env [])) same vs)
 
   and-true : (b : Bool) → (b && true) ≡ b
@@ -187,7 +156,7 @@ module _ (kinds below : List Kind) (outer : List (List Kind)) (sub : Sublink) (s
 
   asked : Asks sub spine on → Holds (both_then (optional_value sub.tested env u) rows (sub_value sub.kind)) found
   asked (for_some kind none test) =
-      let same : test_of spine.test ≡ on = ap test_of (sym test) in
+      let same : condition_or_true spine.test ≡ on = ap condition_or_true (sym test) in
       subst (λ tested. Holds (both_then (optional_value tested env u) rows (sub_value sub.kind)) found) (sym none)
       (subst (λ k. Holds (both_then (Good Null) rows (sub_value k)) found) (sym kind)
       (exists-holds rows found (by_rows (λ row. true) (ap faultless same ∙ calm) (λ v. and-true (is_met (of_spine v)) ∙ ap (λ e. is_met (value e (u ++ v) env [])) same))))
@@ -205,7 +174,7 @@ module _ (kinds below : List Kind) (outer : List (List Kind)) (sub : Sublink) (s
         with_test : faultless (tests_with spine.test other) ≡ true
         with_test = ap faultless (sym any.test) ∙ calm
 
-        parts : (test : Option Expr) → faultless (tests_with test other) ≡ true → (faultless (test_of test) ≡ true) × (faultless other ≡ true)
+        parts : (test : Option Expr) → faultless (tests_with test other) ≡ true → (faultless (condition_or_true test) ≡ true) × (faultless other ≡ true)
         parts None h = (refl, h)
         parts (Some test) h =
             let all = sym (faultless-Op op.And (test ∷ other ∷ [])) ∙ h in
@@ -233,8 +202,8 @@ module _ (kinds below : List Kind) (outer : List (List Kind)) (sub : Sublink) (s
         same v =
             let z = cell (row_by spine.items env (u ++ v)) in
             let w = is_true (truth_of (value_of (compare_values c x.0 z))) in
-            let still = good-is (of_spine v) (good-value (test_of spine.test) (parts spine.test with_test).0 (u ++ v) env []) in
-            ap (λ b. is_met (of_spine v) && b) (sym (holds-boolean w ∙ holds-known (compare_values c x.0 z)))
+            let still = good-is (of_spine v) (good-value (condition_or_true spine.test) (parts spine.test with_test).0 (u ++ v) env []) in
+            ap (λ b. is_met (of_spine v) && b) (sym (holds-boolean w ∙ holds-truth (compare_values c x.0 z)))
             ∙ sym (with-met spine.test other (u ++ v) env (Boolean w) still.0 still.1 (compared-is c tested item.expr (u ++ v) env x.0 z (on_pair v) (made v)))
             ∙ ap (λ e. is_met (value e (u ++ v) env [])) (sym any.test)
 

@@ -3,6 +3,8 @@ use Rattle.std.proofs.Common.{◌≡◌, true, ◌&&◌, List, [], ◌∷◌, �
 use Rattle.std.proofs.lemmas.Bool.{and_from}
 use Rattle.perm_values.specs.declared.kind.Kind.TheVariants.{Boolean}
 use Rattle.perm_values.specs.declared.no_memory.NoMemory.{NoMemory}
+use Rattle.perm_values.proofs.Results.{where_made}
+use Rattle.perm_values.proofs.Steps.{by}
 use Rattle.bag_algebra.proofs.Truths.{left-true, right-true}
 use Rattle.bag_algebra.specs.Expressions.{value}
 use Rattle.bag_algebra.specs.Kinds.{kinds_of, width_of}
@@ -25,8 +27,7 @@ use Rattle.query_laws.proofs.SameExpressions.{items-themselves, optional-itself,
 use Rattle.query_laws.proofs.StandingNodes.{stands-Filter, stands-Project, stands-Join}
 use Rattle.query_laws.specs.Standing.{SubsStand}
 use Rattle.rewrite_core.proofs.Itself.{stands-itself, stands-onward, stands-Single}
-use Rattle.simpler_laws.proofs.TestedQueries.{by, stands-same}
-use Rattle.simpler_laws.proofs.StandingParts.{where_made}
+use Rattle.simpler_laws.proofs.TestedQueries.{stands-same}
 use Rattle.simplifier.proofs.BaredSublinks.{bared-answers, bared-form, bared-kinds, bared-plain, bared-tables}
 use Rattle.simplifier.specs.Bare.{AllBared, SubsStandBared}
 

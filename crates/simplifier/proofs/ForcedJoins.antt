@@ -5,8 +5,10 @@ use Rattle.std.proofs.lemmas.Bool.{and_from}
 use Rattle.perm_values.specs.declared.kind.Kind.{Kind}
 use Rattle.perm_values.specs.declared.kind.Kind.TheVariants as kind
 use Rattle.perm_values.specs.declared.value.Value.{Value}
+use Rattle.perm_values.proofs.Steps.{by}
 use Rattle.bag_algebra.proofs.Members.{IsIn}
 use Rattle.bag_algebra.proofs.NeverBad.{good-query, good-value}
+use Rattle.bag_algebra.proofs.Outcomes.{good-is}
 use Rattle.bag_algebra.proofs.Truths.{left-true, right-true}
 use Rattle.bag_algebra.specs.Bags.{Row, Bag}
 use Rattle.bag_algebra.specs.Children.{sublink_value, subs_denote}
@@ -37,13 +39,13 @@ use Rattle.contribution.proofs.WhereGood.{each-in}
 use Rattle.contribution.specs.Fitting.{Fitting}
 use Rattle.query_laws.proofs.StandingSublinks.{gather-on}
 use Rattle.rewrite_core.proofs.Itself.{stands-onward}
-use Rattle.simpler_laws.proofs.TestedQueries.{by, stands-equal}
+use Rattle.simpler_laws.proofs.TestedQueries.{stands-equal}
 use Rattle.query_laws.proofs.SpineForms.{base-formed, spine-fault_free, spine-faultless, spine-tables}
 use Rattle.query_laws.proofs.SpineRows.{spine_row, spine-rows}
 use Rattle.query_laws.specs.spines.Spines.{IsSpine}
 use Rattle.query_laws.specs.declared.spines.spine.Spine.{Spine}
 use Rattle.simplifier.proofs.ForcedRows.{forced-rows}
-use Rattle.simplifier.proofs.AskedRows.{Holds, good-is, is-asked}
+use Rattle.simplifier.proofs.AskedRows.{Holds, is-asked}
 use Rattle.simplifier.specs.Forced.{Asks, IsForced}
 
 -- ---- rows where a test is met

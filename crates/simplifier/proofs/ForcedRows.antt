@@ -1,19 +1,12 @@
 -- Where just the rows stay that meet another row, a join that keeps unmatched left rows is an inner one of all rows.
-use Rattle.std.proofs.Common.{◌≡◌, ℕ, Bool, true, false, cond, not, ◌||◌, [], ◌∷◌, ◌++◌, filter, map, refl, sym, ap, ◌∙◌}
+use Rattle.std.proofs.Common.{◌≡◌, ℕ, Bool, true, false, cond, not, [], ◌∷◌, ◌++◌, filter, map, refl, sym, ap, ◌∙◌}
 use Rattle.std.specs.List.{list_any}
 use Rattle.perm_values.specs.declared.value.Value.{Value}
 use Rattle.bag_algebra.specs.Bags.{Row, Bag}
 use Rattle.bag_algebra.specs.Means.{holds_of, is_met, kept, met_pairs, joined_rows, unmatched_left}
 use Rattle.bag_algebra.specs.Outcome.{Outcome, Good, Bad, mapped, both, gather}
 use Rattle.bag_algebra.specs.declared.query.JoinKind.TheVariants.{Inner, Left}
-
-or-left : (a b : Bool) → (a || b) ≡ false → a ≡ false
-or-left true b e = e
-or-left false b e = refl
-
-or-right : (a b : Bool) → (a || b) ≡ false → b ≡ false
-or-right true b e = absurd (cc e)
-or-right false b e = e
+use Rattle.bag_algebra.proofs.Truths.{left-false, right-false}
 
 module _ (on : Row → Outcome Value) (calm : (x : Row) → (v : Value) × (on x ≡ Good v)) where
   not-kept : (x : Row) → is_met (on x) ≡ false → kept on x ≡ Good []
@@ -29,8 +22,8 @@ module _ (on : Row → Outcome Value) (calm : (x : Row) → (v : Value) × (on x
   none-kept : (u : Row) (vs : Bag) → list_any (λ v. is_met (on (u ++ v))) vs ≡ false → gather (λ v. kept on (u ++ v)) vs ≡ Good []
   none-kept u [] e = refl
   none-kept u (v ∷ vs) e =
-      λ i. both (λ y ys. y ++ ys) (not-kept (u ++ v) (or-left (is_met (on (u ++ v))) (list_any (λ w. is_met (on (u ++ w))) vs) e) i)
-      (none-kept u vs (or-right (is_met (on (u ++ v))) (list_any (λ w. is_met (on (u ++ w))) vs) e) i)
+      λ i. both (λ y ys. y ++ ys) (not-kept (u ++ v) (left-false (is_met (on (u ++ v))) (list_any (λ w. is_met (on (u ++ w))) vs) e) i)
+      (none-kept u vs (right-false (is_met (on (u ++ v))) (list_any (λ w. is_met (on (u ++ w))) vs) e) i)
 
   nothing-more : (o : Outcome Bag) → both (λ y ys. y ++ ys) (Good []) o ≡ o
   nothing-more (Good us) = refl

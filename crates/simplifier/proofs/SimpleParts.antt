@@ -1,9 +1,9 @@
 -- What is made of simple queries is simple.
 use Rattle.std.proofs.Common.{◌≡◌, true, ◌&&◌, not, Result, IfOk, ap, ◌∙◌}
+use Rattle.perm_values.proofs.Results.{where_made}
 use Rattle.perm_values.proofs.Taken.{opened}
 use Rattle.perm_values.specs.declared.no_memory.NoMemory.{NoMemory}
 use Rattle.bag_algebra.specs.declared.query.Query.{Query}
-use Rattle.simpler_laws.proofs.StandingParts.{where_made}
 use Rattle.simpler_laws.specs.standing.Made.{IsMade, IsMadeOfBoth}
 use Rattle.simpler_laws.specs.merged.Once.{IsMadeOnce, itself, over}
 use Rattle.folded_literals.specs.Simple.{is_simple}

@@ -2,6 +2,7 @@
 use Rattle.std.proofs.Common.{◌≡◌, Bool, true, ◌&&◌, List, [], ◌∷◌, map, Contains, refl, sym, ap, ◌∙◌, subst}
 use Rattle.perm_values.specs.declared.value.Value.{Value}
 use Rattle.perm_values.specs.declared.value.Value.TheVariants as cell
+use Rattle.perm_values.proofs.Steps.{by}
 use Rattle.bag_algebra.proofs.Columns.{each-good}
 use Rattle.bag_algebra.proofs.TablesRead.{reads_among-itself, reads_among-onward}
 use Rattle.bag_algebra.proofs.Truths.{and_true, left-true}
@@ -20,7 +21,6 @@ use Rattle.bag_algebra.specs.declared.query.Query.{Query}
 use Rattle.bag_algebra.specs.declared.query.Query.TheVariants.{Project}
 use Rattle.bag_algebra.specs.declared.query.SubKind.TheVariants.{Exists}
 use Rattle.query_laws.specs.EveryExpression.{items_pass}
-use Rattle.simpler_laws.proofs.TestedQueries.{by}
 use Rattle.simpler_laws.proofs.SubstitutedVariants.{item-value, rest-calm}
 use Rattle.simpler_laws.specs.merged.Substituted.{row_of_items}
 use Rattle.folded_literals.specs.Settled.{is_settled}

@@ -3,7 +3,7 @@ ghost use Rattle.std.specs.Prelude.{◌≡◌, IsTrue};
 ghost use Rattle.bag_algebra.specs.FaultFree.{items_faultless};
 ghost use Rattle.simplifier.specs.Bare.{AllBared, IsBared, IsUnread, StandsUnread};
 
-use bag_algebra::{Item, Query, SubKind, Sublink, faultless};
+use bag_algebra::{Query, SubKind, Sublink, items_faultless};
 use perm_values::List;
 use simpler_laws::input_of;
 use std::mem::replace;
@@ -48,15 +48,4 @@ fn is_unread(query: &Query) -> bool
         }
         _ => false,
     }
-}
-
-fn items_faultless(items: &[Item]) -> bool
-    ensures { result ≡ items_faultless items.now }
-{
-    for item in items {
-        if !faultless(&item.expr) {
-            return false;
-        }
-    }
-    true
 }

@@ -8,10 +8,11 @@ ghost use Rattle.simplifier.specs.Bare.{SubsStandBared};
 
 use crate::bare::bared;
 use bag_algebra::{Query, Sublink};
+use contribution::table;
 use folded_literals::{add_folded, aggregate_folded, filter_folded, join_folded, project_folded};
 use perm_values::{List, NoMemory};
 use simpler_laws::{
-    apply_standing, distinct_once, except_standing, intersect_standing, limit_standing, table,
+    apply_standing, distinct_once, except_standing, intersect_standing, limit_standing,
     union_standing,
 };
 use std::alloc::Global;

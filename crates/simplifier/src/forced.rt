@@ -10,9 +10,8 @@ ghost use Rattle.simplifier.specs.Forced.{FindsOn, IsForced, SubFinds};
 
 use crate::asked::{is_on, may_ask};
 use crate::below::spine_below;
-use bag_algebra::{Expr, JoinKind, Query, Sublink, faultless};
+use bag_algebra::{Expr, JoinKind, Query, Sublink, exact_width, faultless};
 use perm_values::{List, NoMemory};
-use rewrite_core::exact_width;
 use std::alloc::Global;
 
 /// What stands for whatever the query stands for. A LEFT JOIN of the rows where an EXISTS or an ANY is true with the table that it

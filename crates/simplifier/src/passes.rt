@@ -13,12 +13,13 @@ ghost use Rattle.folded_literals.specs.Simple.{is_simple};
 use crate::folding::folded_query;
 use crate::projections::whole_dropped;
 use crate::raising::{above, filter_node, join_node, pairs_where, rows_where};
-use bag_algebra::{Expr, JoinKind, Query, Sublink, faultless};
+use bag_algebra::{Expr, JoinKind, Query, Sublink, all_fault_free, faultless};
+use contribution::table;
 use perm_values::{List, NoMemory};
 use simpler_laws::{
-    add_standing, aggregate_standing, all_fault_free, apply_standing, distinct_once,
-    except_standing, filter_parts, intersect_standing, join_sides, limit_standing, lowered,
-    project_merged, table, union_standing, with_conjuncts,
+    add_standing, aggregate_standing, apply_standing, distinct_once, except_standing, filter_parts,
+    intersect_standing, join_sides, limit_standing, lowered, project_merged, union_standing,
+    with_conjuncts,
 };
 use std::alloc::Global;
 

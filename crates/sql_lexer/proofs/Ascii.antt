@@ -1,5 +1,6 @@
 -- Words, numbers and symbols are ASCII, and so are UTF-8.
 use Rattle.std.proofs.Common.{◌≡◌, ℕ, zero, suc, ◌<◌, Bool, true, List, [], ◌∷◌, arith}
+use Rattle.std.proofs.lemmas.Bool.{and_parts}
 use Rattle.std.specs.List.{list_all}
 use Rattle.std.specs.Char.{to_ascii_lowercase}
 use Rattle.std.specs.Str.{IsAscii, IsUtf8, str_to_ascii_lowercase}
@@ -8,7 +9,6 @@ use Rattle.std.proofs.lemmas.Str.{IsUtf8-from_ascii}
 use Rattle.std.proofs.lemmas.Str.Ascii.{IsAscii-map}
 use Rattle.sql_lexer.specs.Bytes.{is_word, is_digit}
 use Rattle.sql_lexer.proofs.Classes.{word_ascii, digit_ascii}
-use Rattle.sql_lexer.proofs.Fronts.{and_parts}
 
 all_ascii : (p : ℕ → Bool) → ((b : ℕ) → p b ≡ true → b < 128) → (bytes : List ℕ) → list_all p bytes ≡ true → IsAscii bytes
 all_ascii p low [] all i = omega arith

@@ -1,12 +1,15 @@
 -- What stands at the front of a text is read there.
-use Rattle.std.proofs.Common.{◌≡◌, ◌≤◌, ◌<◌, ◌^◌, ℕ, ℤ, pos, ◌+◌, Bool, true, false, ◌&&◌, ◌||◌, List, [], ◌∷◌, ◌++◌, length, Option, Some, None, refl, sym, ap, ◌∙◌, ⊎_elim, arith, append_assoc}
+use Rattle.std.proofs.Common.{◌≡◌, ◌≤◌, ◌<◌, ◌^◌, ℕ, ℤ, pos, ◌+◌, true, false, ◌&&◌, List, [], ◌∷◌, ◌++◌, length, Some, None, refl, sym, ap, ◌∙◌, ⊎_elim, arith, append_assoc}
+use Rattle.std.proofs.Math.Bool.{and-false}
 use Rattle.std.specs.Prelude.{nat_eq, is_some}
 use Rattle.std.specs.List.{list_all}
 use Rattle.std.specs.Str.{str_to_ascii_lowercase}
 use Rattle.std.specs.Str.Parse.{digits_value}
-use Rattle.std.proofs.lemmas.Bool.{eqb-true, lt-ltb, le-ltb, cases_Bool}
+use Rattle.std.proofs.lemmas.Bool.{eqb-true, lt-ltb, le-ltb, cases_Bool, or_parts, and_from}
 use Rattle.std.proofs.lemmas.List.{length-append}
 use Rattle.std.proofs.Math.Seq.{take-append_seam}
+use Rattle.std.proofs.lemmas.Option.{same_Some}
+use Rattle.perm_values.proofs.Steps.{is_none-is}
 use Rattle.sql_lexer.specs.declared.token.Token.{Token}
 use Rattle.sql_lexer.specs.declared.token.TokenKind.{TokenKind}
 use Rattle.sql_lexer.specs.declared.token.TokenKind.TheVariants.{Word, Quoted, Number, Text, Symbol}
@@ -20,7 +23,6 @@ use Rattle.sql_lexer.specs.Reading.{Ends, Refused, one, token_of, word, number, 
 use Rattle.sql_lexer.proofs.BetweenQuotes.{unquoted_found, unquoted_none}
 use Rattle.sql_lexer.proofs.Classes.{blank_class, letter_joins, digit_joins, single_class, pair_class, dash_class}
 use Rattle.sql_lexer.proofs.Fronts.{front_is}
-use Rattle.sql_lexer.proofs.Numbers.{and_true}
 
 -- by the class of the first byte
 by : (class : Class) (at b : ℕ) (rest : List ℕ) → class_of b ≡ class → next at (b ∷ rest) ≡ by_class class at b rest
@@ -57,21 +59,6 @@ quote_class : (class_of 34 ≡ Quote) × (class_of 39 ≡ Quote)
 unfolding class_of
 quote_class = (refl, refl)
 
-or_false_parts : (a b : Bool) → (a || b) ≡ false → (a ≡ false) × (b ≡ false)
-or_false_parts true b e = absurd (cc)
-or_false_parts false b e = (refl, e)
-
-none_from : {X : Type 0} (o : Option X) → is_some o ≡ false → o ≡ None
-none_from None e = refl
-none_from (Some x) e = absurd (cc)
-
-some_same : {X : Type 0} {x y : X} → Some x ≡ Some y → x ≡ y
-some_same e = cc
-
-and_false : (a : Bool) → (a && false) ≡ false
-and_false true = refl
-and_false false = refl
-
 -- no comment begins here
 comment_or_symbol_is : (at b : ℕ) (rest : List ℕ) → (nat_eq b 45 && next_is (λ c. nat_eq c 45) rest) ≡ false → comment_or_symbol at b rest ≡ symbol at b (pair_at b rest)
 unfolding comment_or_symbol
@@ -79,10 +66,10 @@ comment_or_symbol_is at b rest e = rw e refl
 
 symbol_of_one : (at b : ℕ) (rest : List ℕ) → is_single b ≡ true → next_is (goes_on Symbol (b ∷ [])) rest ≡ false
     → comment_or_symbol at b rest ≡ one Symbol at (at + 1) (b ∷ []) (pos 0)
-symbol_of_one at b [] is stop = comment_or_symbol_is at b [] (and_false (nat_eq b 45)) ∙ rw (single_class b is) refl
+symbol_of_one at b [] is stop = comment_or_symbol_is at b [] (and-false (nat_eq b 45)) ∙ rw (single_class b is) refl
 symbol_of_one at b (c ∷ rest) is stop =
-    let parts = or_false_parts (is_some (pair b c)) (nat_eq b 45 && nat_eq c 45) stop in
-    comment_or_symbol_is at b (c ∷ rest) parts.1 ∙ rw (none_from (pair b c) parts.0, single_class b is) refl
+    let parts = or_parts (is_some (pair b c)) (nat_eq b 45 && nat_eq c 45) stop in
+    comment_or_symbol_is at b (c ∷ rest) parts.1 ∙ rw (is_none-is (pair b c) parts.0, single_class b is) refl
 
 symbol_of_two : (at b c : ℕ) (rest spelled : List ℕ) → pair b c ≡ Some spelled → comment_or_symbol at b (c ∷ rest) ≡ one Symbol at (at + 2) spelled (pos 0)
 symbol_of_two at b c rest spelled e = comment_or_symbol_is at b (c ∷ rest) (pair_class b c spelled e).1 ∙ ap (symbol at b) e
@@ -93,7 +80,7 @@ symbol_reads : (at : ℕ) (bytes rest spelled : List ℕ) → held bytes ≡ Som
 symbol_reads at [] rest spelled e stop = absurd (cc)
 symbol_reads at (b ∷ []) rest spelled e stop =
     ⊎_elim (λ is. let same : Some (b ∷ []) ≡ Some spelled = rw is at e in
-    by Single at b rest (single_class b is) ∙ symbol_of_one at b rest is stop ∙ ap (λ word. one Symbol at (at + 1) word (pos 0)) (some_same same))
+    by Single at b rest (single_class b is) ∙ symbol_of_one at b rest is stop ∙ ap (λ word. one Symbol at (at + 1) word (pos 0)) (same_Some _ _ same))
     (λ other. let none : None ≡ Some spelled = rw other at e in absurd (cc)) (cases_Bool (is_single b))
 symbol_reads at (b ∷ c ∷ []) rest spelled e stop =
     ⊎_elim (λ is. by Single at b (c ∷ rest) is ∙ symbol_of_two at b c rest spelled e) (λ is. by Other at b (c ∷ rest) is ∙ symbol_of_two at b c rest spelled e)
@@ -105,12 +92,12 @@ token_reads : (kind : TokenKind) (at : ℕ) (bytes rest spelled : List ℕ) (val
 token_reads Word at [] rest spelled value s stop = absurd s.0
 token_reads Word at (b ∷ bytes) rest spelled value s stop =
     by Letter at b (bytes ++ rest) s.0.0
-    ∙ word_reads at (b ∷ bytes) rest (and_true (is_word b) (list_all is_word bytes) (letter_joins b s.0.0) s.0.1) stop ∙ rw (s.1, s.2) refl
+    ∙ word_reads at (b ∷ bytes) rest (and_from (is_word b) (list_all is_word bytes) (letter_joins b s.0.0) s.0.1) stop ∙ rw (s.1, s.2) refl
 token_reads Quoted at bytes rest spelled value s stop = rw (s.0, s.1) (quoted_reads at 34 spelled rest quote_class.0 stop)
 token_reads Number at [] rest spelled value s stop = absurd s.0
 token_reads Number at (b ∷ bytes) rest spelled value s stop =
     by Digit at b (bytes ++ rest) s.0.0
-    ∙ number_reads at (b ∷ bytes) rest (and_true (is_digit b) (list_all is_digit bytes) (digit_joins b s.0.0) s.0.1) stop s.3 ∙ rw (s.1, s.2) refl
+    ∙ number_reads at (b ∷ bytes) rest (and_from (is_digit b) (list_all is_digit bytes) (digit_joins b s.0.0) s.0.1) stop s.3 ∙ rw (s.1, s.2) refl
 token_reads Text at bytes rest spelled value s stop = rw (s.0, s.1) (quoted_reads at 39 spelled rest quote_class.1 stop)
 token_reads Symbol at bytes rest spelled value s stop = symbol_reads at bytes rest spelled s.0 stop ∙ rw s.1 refl
 
@@ -129,7 +116,7 @@ piece_reads (token {at} {bytes} {rest} {token} is stop) =
 
 pair_none : (b : ℕ) (rest : List ℕ) → next_is (λ c. is_some (pair b c)) rest ≡ false → pair_at b rest ≡ None
 pair_none b [] stop = refl
-pair_none b (c ∷ rest) stop = none_from (pair b c) stop
+pair_none b (c ∷ rest) stop = is_none-is (pair b c) stop
 
 other_dash : (b : ℕ) → class_of b ≡ Other → nat_eq b 45 ≡ false
 other_dash b e =
@@ -143,7 +130,7 @@ large_fails : (at : ℕ) (digits rest : List ℕ) → IsNumber digits → next_i
 large_fails at [] rest is stop large = absurd is
 large_fails at (b ∷ digits) rest is stop large =
     by Digit at b (digits ++ rest) is.0
-    ∙ number_fails at (b ∷ digits) rest (and_true (is_digit b) (list_all is_digit digits) (digit_joins b is.0) is.1) stop large
+    ∙ number_fails at (b ∷ digits) rest (and_from (is_digit b) (list_all is_digit digits) (digit_joins b is.0) is.1) stop large
 
 pub wrong_reads : (at : ℕ) (text : List ℕ) (error : LexError) → IsWrong at text error → next at text ≡ Refused error
 wrong_reads at text (NotUtf8 place) w = absurd w

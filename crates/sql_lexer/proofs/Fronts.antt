@@ -1,7 +1,7 @@
 -- The longest front of a list that passes a test.
-use Rattle.std.proofs.Common.{◌≡◌, ℕ, suc, ◌+◌, Bool, true, false, ◌&&◌, List, [], ◌∷◌, ◌++◌, length, take, drop, refl, ap, ◌∙◌, ⊎_elim, one-add, ◌<◌, get_or, arith}
+use Rattle.std.proofs.Common.{◌≡◌, ℕ, suc, ◌+◌, Bool, true, false, List, [], ◌∷◌, ◌++◌, length, take, drop, refl, ap, ◌∙◌, ⊎_elim, one-add, ◌<◌, get_or, arith}
 use Rattle.std.specs.List.{prefix_len, list_all}
-use Rattle.std.proofs.lemmas.Bool.{cases_Bool, cond-true, cond-false}
+use Rattle.std.proofs.lemmas.Bool.{cases_Bool, cond-true, cond-false, and_parts}
 use Rattle.sql_lexer.specs.Bytes.{next_is}
 
 -- the list begins with bytes that pass, up to one that doesn't
@@ -33,11 +33,6 @@ front_passes p xs = passes (fronts p xs)
 
 pub front_stops : (p : ℕ → Bool) (xs : List ℕ) → next_is p (drop (prefix_len p xs) xs) ≡ false
 front_stops p xs = stops (fronts p xs)
-
-pub and_parts : (a b : Bool) → (a && b) ≡ true → (a ≡ true) × (b ≡ true)
-and_parts true true e = (refl, refl)
-and_parts true false e = absurd (cc)
-and_parts false b e = absurd (cc)
 
 pub front_is : (p : ℕ → Bool) (xs rest : List ℕ) → list_all p xs ≡ true → next_is p rest ≡ false → prefix_len p (xs ++ rest) ≡ length xs
 front_is p [] [] all stop = refl

@@ -3,13 +3,12 @@ use Rattle.std.proofs.Common.{◌≡◌, ◌≢◌, ◌⊎◌, inl, inr, eq-eqb,
 use Rattle.std.specs.Prelude.{nat_eq}
 use Rattle.std.specs.Str.{IsUtf8}
 use Rattle.std.proofs.Math.Utf8.{scalar, scalars, encode, encodes}
-use Rattle.std.proofs.lemmas.Bool.{eqb-true, cases_Bool}
+use Rattle.std.proofs.lemmas.Bool.{eqb-true, cases_Bool, and_parts}
 use Rattle.std.proofs.lemmas.List.{append-nil, length-append, get_or-drop, take_rest}
 use Rattle.std.proofs.lemmas.Str.{encode_ascii, encode_same, inside_one, IsUtf8-nil, IsUtf8-append, IsUtf8-encode, IsUtf8-past_char, IsUtf8-drop, IsCharBoundary-before_ascii}
 use Rattle.sql_lexer.specs.Bytes.{doubled}
 use Rattle.sql_lexer.specs.Reading.{Unquoted, unquoted}
 use Rattle.sql_lexer.proofs.BetweenQuotes.{doubled_quote, doubled_other, Says, says}
-use Rattle.sql_lexer.proofs.Fronts.{and_parts}
 use Rattle.sql_lexer.proofs.Ascii.{one_utf8}
 
 -- bytes without a quote at the front stand before the quotes are doubled too

@@ -1,8 +1,8 @@
 -- Digits, and the number that `parse` reads from them.
-use Rattle.std.proofs.Common.{◌≡◌, ℕ, ℤ, pos, ◌+◌, ◌<◌, ◌^◌, ◌&&◌, Bool, true, false, ltb, List, [], ◌∷◌, length, take, get_or, Some, None, Result, Ok, Err, refl, sym, ap, ◌∙◌, ⊎_elim, arith, w64}
+use Rattle.std.proofs.Common.{◌≡◌, ℕ, ℤ, pos, ◌+◌, ◌<◌, ◌^◌, true, false, ltb, List, [], ◌∷◌, length, take, get_or, Some, None, Result, Ok, Err, refl, sym, ap, ◌∙◌, ⊎_elim, arith, w64}
 use Rattle.std.specs.List.{list_all, prefix_len}
 use Rattle.std.specs.Str.Parse.{digits_value, ParsesSigned}
-use Rattle.std.proofs.lemmas.Bool.{lt-ltb, ltb-true, false_from_ne_true, cond-true, cond-false, cases_Bool}
+use Rattle.std.proofs.lemmas.Bool.{lt-ltb, ltb-true, false_from_ne_true, cond-true, cond-false, cases_Bool, and_from, and_parts}
 use Rattle.std.proofs.lemmas.List.Folds.{length-prefix_len}
 use Rattle.std.proofs.lemmas.Result.{OkIff-at_ok, OkIff-at_err}
 use Rattle.std.proofs.lemmas.Str.Parse.{IsDigitsTest, IsNumeralModel, numerals_by_value, parse_signed_digits}
@@ -13,16 +13,13 @@ use Rattle.sql_lexer.specs.Bytes.{class_of, is_digit}
 use Rattle.sql_lexer.specs.Reading.{Refused, one, number}
 use Rattle.sql_lexer.specs.Spelled.{value_in_range}
 use Rattle.sql_lexer.proofs.Classes.{digit_range, digit_class, digit_is, digit_joins}
-use Rattle.sql_lexer.proofs.Fronts.{and_parts, front_more}
-
-pub and_true : (a b : Bool) → a ≡ true → b ≡ true → (a && b) ≡ true
-and_true a b e f = rw (e, f) refl
+use Rattle.sql_lexer.proofs.Fronts.{front_more}
 
 tells : IsDigitsTest (λ digits. list_all is_digit digits ≡ true)
 tells = record {
   empty = refl;
   parts = λ c cs all. (digit_range c (digit_is c (and_parts (is_digit c) (list_all is_digit cs) all).0), (and_parts (is_digit c) (list_all is_digit cs) all).1);
-  more = λ c cs low all. and_true (is_digit c) (list_all is_digit cs) (digit_joins c (digit_class c low)) all;
+  more = λ c cs low all. and_from (is_digit c) (list_all is_digit cs) (digit_joins c (digit_class c low)) all;
 }
 
 pub numerals : IsNumeralModel (λ digits. list_all is_digit digits ≡ true) (digits_value 10)

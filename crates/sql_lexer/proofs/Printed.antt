@@ -1,11 +1,12 @@
 -- Tokens that are printed with a space behind each are read again.
-use Rattle.std.proofs.Common.{◌≡◌, ◌≢◌, ◌<◌, ◌^◌, ℕ, ℤ, pos, suc, ◌+◌, Bool, true, false, cond, ◌&&◌, List, [], ◌∷◌, ◌++◌, length, get_or, zero-add, Some, refl, sym, ap, subst, ◌∙◌, ⊎_elim, arith, append_assoc, add-zero, eq-eqb}
+use Rattle.std.proofs.Common.{◌≡◌, ◌≢◌, ◌<◌, ◌^◌, ℕ, ℤ, pos, suc, ◌+◌, true, false, cond, List, [], ◌∷◌, ◌++◌, length, get_or, zero-add, Some, refl, sym, ap, subst, ◌∙◌, ⊎_elim, arith, append_assoc, add-zero, eq-eqb}
+use Rattle.std.proofs.Math.Bool.{and-false}
 use Rattle.std.specs.Prelude.{nat_eq}
 use Rattle.std.specs.Fmt.{decimal}
 use Rattle.std.specs.List.{list_all, AllByRecursion}
 use Rattle.std.specs.Str.{IsUtf8}
 use Rattle.std.proofs.Math.Utf8.{scalar, scalars, encode, encodes}
-use Rattle.std.proofs.lemmas.Bool.{cases_Bool, eqb-true, false_from_ne_true}
+use Rattle.std.proofs.lemmas.Bool.{cases_Bool, eqb-true, false_from_ne_true, and_parts}
 use Rattle.std.proofs.lemmas.Fmt.{digits_decimal, digits_value-decimal, decimal_nonempty, IsAscii-decimal}
 use Rattle.std.proofs.lemmas.Grind.{flat_map-append}
 use Rattle.std.proofs.lemmas.List.{length-append, append-nil}
@@ -19,7 +20,6 @@ use Rattle.sql_lexer.specs.Printing.{bytes_of, spelling, CanSpell, IsSpellable, 
 use Rattle.sql_lexer.proofs.Ascii.{one_utf8}
 use Rattle.sql_lexer.proofs.BetweenQuotes.{doubled_quote, doubled_other}
 use Rattle.sql_lexer.proofs.Classes.{digit_is}
-use Rattle.sql_lexer.proofs.Fronts.{and_parts}
 use Rattle.sql_lexer.proofs.InsideUtf8.{clean_char}
 use Rattle.sql_lexer.proofs.Numbers.{numerals}
 
@@ -31,13 +31,9 @@ all_number : (bytes : List ℕ) → list_all is_digit bytes ≡ true → 0 < len
 all_number [] all some = absurd (omega arith)
 all_number (b ∷ bytes) all some = let parts = and_parts (is_digit b) (list_all is_digit bytes) all in (digit_is b parts.0, parts.1)
 
-and_false : (a : Bool) → (a && false) ≡ false
-and_false true = refl
-and_false false = refl
-
 symbol_ends : (spelled rest : List ℕ) → held spelled ≡ Some spelled → next_is (goes_on Symbol spelled) (32 ∷ rest) ≡ false
 symbol_ends [] rest e = absurd (cc)
-symbol_ends (b ∷ []) rest e = rw (and_false (nat_eq b 60), and_false (nat_eq b 33), and_false (nat_eq b 62), and_false (nat_eq b 45)) refl
+symbol_ends (b ∷ []) rest e = rw (and-false (nat_eq b 60), and-false (nat_eq b 33), and-false (nat_eq b 62), and-false (nat_eq b 45)) refl
 symbol_ends (b ∷ c ∷ []) rest e = refl
 symbol_ends (b ∷ c ∷ d ∷ more) rest e = absurd (cc)
 

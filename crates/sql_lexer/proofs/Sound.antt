@@ -1,9 +1,9 @@
 -- What is read at the front of a text stands there.
-use Rattle.std.proofs.Common.{◌≡◌, ◌⊎◌, ◌^◌, inl, inr, ℕ, pos, ◌+◌, Bool, true, false, ◌&&◌, ◌||◌, ltb, List, [], ◌∷◌, ◌++◌, length, take, drop, Option, Some, None, refl, sym, ap, subst, ◌∙◌, ⊎_elim, arith, append_assoc}
+use Rattle.std.proofs.Common.{◌≡◌, ◌⊎◌, ◌^◌, inl, inr, ℕ, pos, ◌+◌, Bool, true, false, ◌&&◌, ltb, List, [], ◌∷◌, ◌++◌, length, take, drop, Option, Some, None, refl, sym, ap, subst, ◌∙◌, ⊎_elim, arith, append_assoc}
 use Rattle.std.specs.Prelude.{nat_eq, is_some}
 use Rattle.std.specs.List.{prefix_len}
 use Rattle.std.specs.Str.Parse.{digits_value}
-use Rattle.std.proofs.lemmas.Bool.{eqb-true, ltb-true, ltb-false, cond_both}
+use Rattle.std.proofs.lemmas.Bool.{eqb-true, ltb-true, ltb-false, cond_both, or_from, and_parts}
 use Rattle.std.proofs.lemmas.List.{length-append, take-append-drop}
 use Rattle.std.proofs.lemmas.List.Folds.{length-prefix_len}
 use Rattle.sql_lexer.specs.declared.token.TokenKind.TheVariants.{Number, Symbol}
@@ -15,7 +15,7 @@ use Rattle.sql_lexer.specs.Lexes.{IsWord, IsNumber, goes_on, Piece, blank, comme
 use Rattle.sql_lexer.specs.Reading.{Unquoted, Front, Nothing, Ends, Refused, one, token_of, word, number, closed, kind_of, unquoted, pair_at, single, symbol, comment_or_symbol, by_class, next}
 use Rattle.sql_lexer.proofs.BetweenQuotes.{Says, says}
 use Rattle.sql_lexer.proofs.Classes.{blank_test, letter_joins, digit_joins, quote_cases, single_test}
-use Rattle.sql_lexer.proofs.Fronts.{and_parts, front_more, front_passes, front_stops}
+use Rattle.sql_lexer.proofs.Fronts.{front_more, front_passes, front_stops}
 
 -- what it means that this was read
 abbrev pub IsRead : ℕ → List ℕ → Front → Type 0
@@ -98,14 +98,11 @@ alone_single Blank e = absurd (cc)
 alone_single Quote e = absurd (cc)
 alone_single Other e = absurd (cc)
 
-or_false : (a b : Bool) → a ≡ false → b ≡ false → (a || b) ≡ false
-or_false a b e f = rw (e, f) refl
-
 -- no pair and no comment begins here
 lone : (b : ℕ) (rest : List ℕ) → pair_at b rest ≡ None → (nat_eq b 45 && next_is (λ c. nat_eq c 45) rest) ≡ false
     → next_is (goes_on Symbol (b ∷ [])) rest ≡ false
 lone b [] e f = refl
-lone b (c ∷ rest) e f = or_false (is_some (pair b c)) (nat_eq b 45 && nat_eq c 45) (ap is_some e) f
+lone b (c ∷ rest) e f = or_from (is_some (pair b c)) (nat_eq b 45 && nat_eq c 45) (ap is_some e) f
 
 no_pair : (b : ℕ) (rest : List ℕ) → pair_at b rest ≡ None → next_is (λ c. is_some (pair b c)) rest ≡ false
 no_pair b [] e = refl

@@ -5,7 +5,7 @@ use Rattle.std.specs.List.{list_all, AllByRecursion}
 use Rattle.std.specs.Char.{to_ascii_lowercase}
 use Rattle.std.specs.Str.{str_to_ascii_lowercase}
 use Rattle.std.specs.Str.Parse.{digits_value}
-use Rattle.std.proofs.lemmas.Bool.{cases_Bool, cond_both}
+use Rattle.std.proofs.lemmas.Bool.{cases_Bool, cond_both, and_from, and_parts}
 use Rattle.std.proofs.lemmas.Bool.Decides.{nat_tests}
 use Rattle.sql_lexer.specs.declared.token.Token.{Token}
 use Rattle.sql_lexer.specs.declared.token.TokenKind.{TokenKind}
@@ -16,8 +16,6 @@ use Rattle.sql_lexer.specs.Bytes.{class_of, is_word, joins_word, is_single, pair
 use Rattle.sql_lexer.specs.Lexes.{IsWord, Spells, blank, comment, token, LexesTo, nothing, piece}
 use Rattle.sql_lexer.specs.Printing.{CanSpell, IsSpellable}
 use Rattle.sql_lexer.proofs.Classes.{letter_joins}
-use Rattle.sql_lexer.proofs.Fronts.{and_parts}
-use Rattle.sql_lexer.proofs.Numbers.{and_true}
 
 lower_letter : (b : ℕ) → class_of b ≡ Letter → class_of (to_ascii_lowercase b) ≡ Letter
 unfolding class_of
@@ -42,7 +40,7 @@ lower_all : (bytes : List ℕ) → list_all is_word bytes ≡ true → list_all 
 lower_all [] all = refl
 lower_all (b ∷ bytes) all =
     let parts = and_parts (is_word b) (list_all is_word bytes) all in
-    and_true (is_word (to_ascii_lowercase b)) (list_all is_word (str_to_ascii_lowercase bytes)) (lower_joins b (class_of b) refl parts.0) (lower_all bytes parts.1)
+    and_from (is_word (to_ascii_lowercase b)) (list_all is_word (str_to_ascii_lowercase bytes)) (lower_joins b (class_of b) refl parts.0) (lower_all bytes parts.1)
 
 lower_same : (bytes : List ℕ) → str_to_ascii_lowercase bytes ≡ str_to_ascii_lowercase (str_to_ascii_lowercase bytes)
 lower_same [] = refl

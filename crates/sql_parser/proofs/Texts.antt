@@ -2,14 +2,13 @@
 use Rattle.std.proofs.Common.{◌≡◌, ℕ, zero, suc, ◌<◌, ◌+◌, ◌-◌, Bool, true, false, cond, List, [], ◌∷◌, ◌++◌, length, drop, Option, Some, None, refl, sym, ap, subst, ◌∙◌, arith}
 use Rattle.std.specs.List.{list_all}
 use Rattle.std.specs.Str.{IsAscii}
-use Rattle.std.proofs.lemmas.Bool.{ltb-true}
+use Rattle.std.proofs.lemmas.Bool.{ltb-true, and_parts}
 use Rattle.std.proofs.lemmas.List.{length-append}
 use Rattle.std.proofs.lemmas.Str.{IsUtf8-from_ascii}
 use Rattle.std.proofs.Math.Seq.{drop-append_seam}
 use Rattle.sql_lexer.specs.declared.token.Token.{Token}
 use Rattle.sql_lexer.specs.Lexes.{Piece, LexesTo, nothing, piece, Lexes}
 use Rattle.sql_lexer.specs.Reading.{Front, Nothing, Ends, Refused, next}
-use Rattle.sql_lexer.proofs.Fronts.{and_parts}
 use Rattle.sql_lexer.proofs.OneAnswer.{one_list}
 use Rattle.sql_lexer.proofs.Sound.{IsRead, is_read}
 use Rattle.sql_tree.specs.grammar.Cursors.{reading}

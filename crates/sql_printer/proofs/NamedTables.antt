@@ -6,6 +6,7 @@ use Rattle.std.specs.List.{AllByRecursion, IsDistinct, list_any}
 use Rattle.std.specs.Option.{option_map, option_and_then}
 use Rattle.std.proofs.lemmas.Bool.Decides.{nat_tests}
 use Rattle.std.proofs.lemmas.List.Elements.{Contains-append_cases, Contains-push_cases}
+use Rattle.std.proofs.lemmas.Option.{same_Some}
 use Rattle.perm_values.specs.declared.kind.Kind.{Kind}
 use Rattle.bag_algebra.specs.TablesRead.{EachTable, TableRead, tables_read}
 use Rattle.bag_algebra.specs.declared.query.Query.{Query}
@@ -15,7 +16,7 @@ use Rattle.perm_catalog.specs.Contents.{Contents}
 use Rattle.perm_catalog.specs.Lookups.{name_of_id}
 use Rattle.perm_catalog.specs.Sound.{IsSound}
 use Rattle.perm_catalog.specs.declared.entries.TableEntry.{TableEntry}
-use Rattle.stored_provenance.proofs.Marks.{has-entry, some_same}
+use Rattle.stored_provenance.proofs.Marks.{has-entry}
 use Rattle.stored_provenance.specs.Held.{IsHeldTable}
 use Rattle.stored_provenance.specs.Reads.{listed}
 use Rattle.name_meaning.specs.Froms.{named_so}
@@ -75,7 +76,7 @@ id-own : (id : ℕ) (t : TableNames) → has_id id t ≡ true → t.id ≡ id
 id-own id t is = grind (arith, nat_tests, is)
 
 one-found : (id : ℕ) (n t : TableNames) (b : Bool) → has_id id n ≡ b → cond b (Some n) None ≡ Some t → (n.id ≡ id) × (n ≡ t)
-one-found id n t true e is = (id-own id n e, some_same n t is)
+one-found id n t true e is = (id-own id n e, same_Some n t is)
 one-found id n t false e is = none-found t is
 
 -- ---- naming one table after another
@@ -86,7 +87,7 @@ module _ (c : Contents) where
     where
       under : (name : List ℕ) (o : Option TableEntry) → option_map (named_under id name) o ≡ Some n → n.id ≡ id
       under name None e = none-found n e
-      under name (Some table) e = sym (ap (λ (t : TableNames). t.id) (some_same (named_under id name table) n e))
+      under name (Some table) e = sym (ap (λ (t : TableNames). t.id) (same_Some (named_under id name table) n e))
 
       by : (o : Option (List ℕ)) → option_and_then (λ name. option_map (named_under id name) (table_named c name)) o ≡ Some n → n.id ≡ id
       by None e = none-found n e

@@ -2,6 +2,7 @@
 use Rattle.std.proofs.Common.{◌≡◌, ℕ, ◌<◌, true, List, [], ◌∷◌, length, refl, sym, subst, ◌∙◌, arith}
 use Rattle.std.specs.List.{AllByRecursion}
 use Rattle.std.specs.Str.{IsUtf8}
+use Rattle.perm_values.specs.Rows.{KeysWithin}
 use Rattle.perm_values.specs.declared.key.Key.{Key}
 use Rattle.perm_values.specs.declared.kind.Kind.{Kind}
 use Rattle.sql_lexer.specs.declared.token.Token.{Token}
@@ -9,7 +10,7 @@ use Rattle.tree_texts.specs.plans.Plans.{tokens_of}
 use Rattle.bag_algebra.specs.Kinds.{kinds_of}
 use Rattle.bag_algebra.specs.Rewriting.{is_plain}
 use Rattle.bag_algebra.specs.TablesRead.{EachTable}
-use Rattle.bag_algebra.specs.WellFormed.{KeysIn, WellFormed}
+use Rattle.bag_algebra.specs.WellFormed.{WellFormed}
 use Rattle.bag_algebra.specs.declared.query.Answer.{Answer}
 use Rattle.bag_algebra.specs.declared.query.Query.{Query}
 use Rattle.perm_catalog.specs.Contents.{Contents}
@@ -52,7 +53,7 @@ some-kinds (kind ∷ kinds) some = record { first = kind; more = kinds; is = ref
 abbrev IsLaw : (Contents → List TableNames → Answer → QueryTree → Type 0) → Type 0
 IsLaw Holds = (c : Contents) (tables : List TableNames) (q : Query) (kind : Kind) (more : List Kind) → kinds_of q ≡ kind ∷ more
     → WellFormed [] q → WritableQuery q → EachTable (IsNamed c tables) q → Narrow q → Few (kinds_of q)
-    → (names : List (List ℕ)) (keys : List Key) → length names ≡ length (kinds_of q) → KeysIn (length names) keys → (tree : QueryTree)
+    → (names : List (List ℕ)) (keys : List Key) → length names ≡ length (kinds_of q) → KeysWithin (length names) keys → (tree : QueryTree)
     → IsQuery (shown_answer tables q names keys) tree → Holds c tables (record { query = q; names = names; keys = keys }) tree
 
 -- it is read as what is printed, and means the answer
@@ -79,7 +80,7 @@ module _ (reads_back : IsLaw ReadsBack) (means : IsLaw Means) (c : Contents) (ta
       let some = some-kinds (kinds_of answer.query) sound.some in
       law c tables answer.query some.first some.more some.is sound.closed (printable-writable answer.query plain printable) named
       (printable-narrow answer.query printable) (short-few (kinds_of answer.query) (printable-short answer.query printable)) answer.names answer.keys
-      sound.named (subst (λ n. KeysIn n answer.keys) (sym sound.named) sound.keys) tree is
+      sound.named (subst (λ n. KeysWithin n answer.keys) (sym sound.named) sound.keys) tree is
 
   -- what the text is: a script of the tokens of what is written, where these can stand
   abbrev pub IsScriptOfAnswer : List ℕ → Type 0

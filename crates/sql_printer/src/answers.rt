@@ -1,11 +1,12 @@
 //! That the text of a query is read as what it was printed for.
 //! Each law is the contract of a function that does nothing.
 ghost use Rattle.std.specs.Prelude.{◌≡◌, ℕ, List, ◌∷◌, [], length};
+ghost use Rattle.perm_values.specs.Rows.{KeysWithin};
 ghost use Rattle.perm_values.specs.declared.key.Key.{Key};
 ghost use Rattle.perm_values.specs.declared.kind.Kind.{Kind};
 ghost use Rattle.bag_algebra.specs.Kinds.{kinds_of};
 ghost use Rattle.bag_algebra.specs.TablesRead.{EachTable};
-ghost use Rattle.bag_algebra.specs.WellFormed.{KeysIn, WellFormed};
+ghost use Rattle.bag_algebra.specs.WellFormed.{WellFormed};
 ghost use Rattle.bag_algebra.specs.declared.query.Query.{Query};
 ghost use Rattle.perm_catalog.specs.Contents.{Contents};
 ghost use Rattle.sql_tree.specs.declared.query.QueryTree.{QueryTree};
@@ -25,7 +26,7 @@ pub fn a_printed_answer_is_read_back()
         → kinds_of q ≡ kind ∷ more → WellFormed [] q → WritableQuery q
         → EachTable (IsNamed c tables) q → Narrow q → Few (kinds_of q)
         → (names : List (List ℕ)) (keys : List Key) → length names ≡ length (kinds_of q)
-        → KeysIn (length names) keys → (tree : QueryTree)
+        → KeysWithin (length names) keys → (tree : QueryTree)
         → IsQuery (shown_answer tables q names keys) tree → IsReadAs c tree (record {
           query = printed_answer (source_in c tables) q;
           names = names;
@@ -39,7 +40,7 @@ pub fn a_printed_answer_means_the_answer()
         → kinds_of q ≡ kind ∷ more → WellFormed [] q → WritableQuery q
         → EachTable (IsNamed c tables) q → Narrow q → Few (kinds_of q)
         → (names : List (List ℕ)) (keys : List Key) → length names ≡ length (kinds_of q)
-        → KeysIn (length names) keys → (tree : QueryTree)
+        → KeysWithin (length names) keys → (tree : QueryTree)
         → IsQuery (shown_answer tables q names keys) tree
         → MeansTheSame c (record { query = q; names = names; keys = keys }) (read_as c tree) }
 {}

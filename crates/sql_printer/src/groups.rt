@@ -1,8 +1,9 @@
 //! That the text of a SELECT with groups is read as what it was printed for.
 //! Each law is the contract of a function that does nothing.
 ghost use Rattle.std.specs.Prelude.{ℕ, suc, ◌+◌, ◌<◌, ◌^◌, List, ◌∷◌, length};
+ghost use Rattle.perm_values.specs.Rows.{PlacesWithin};
 ghost use Rattle.perm_values.specs.declared.kind.Kind.{Kind};
-ghost use Rattle.bag_algebra.specs.WellFormed.{AggregatesForm, PlacesIn};
+ghost use Rattle.bag_algebra.specs.WellFormed.{AggregatesForm};
 ghost use Rattle.bag_algebra.specs.declared.query.Aggr.{Aggr};
 ghost use Rattle.bag_algebra.specs.declared.query.Query.{Query};
 ghost use Rattle.perm_catalog.specs.Contents.{Contents};
@@ -26,7 +27,7 @@ pub fn printed_groups_are_read_back()
         → FormRead c (in_from around.outer) (numbered_names (suc depth) 1 (kind ∷ more))
         (kind ∷ more) form q
         → (group : ℕ) (others : List ℕ) (aggregates : List Aggr)
-        → PlacesIn (length (kind ∷ more)) (group ∷ others)
+        → PlacesWithin (length (kind ∷ more)) (group ∷ others)
         → AggregatesForm ((kind ∷ more) ∷ scopes) aggregates → WritableAggregates aggregates
         → 1 + (length (group ∷ others) + length aggregates) < 2 ^ 64
         → (out first : ℕ)

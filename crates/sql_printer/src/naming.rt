@@ -53,7 +53,8 @@ fn add_inputs(
     inputs: Inputs<'_>,
     tables: &mut List<TableNames>,
 ) -> Result<(), NoMemory>
-    ensures { OnOk result (tables.new ≡ with_reads catalog.now (inputs_read (given inputs.entry)) tables.old) }
+    ensures { OnOk result (tables.new
+        ≡ with_reads catalog.now (inputs_read (given inputs.entry)) tables.old) }
 {
     match inputs {
         Inputs::Zero => Ok(()),

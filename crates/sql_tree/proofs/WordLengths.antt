@@ -1,12 +1,11 @@
 -- A word is looked up among the words that are as long.
-use Rattle.std.proofs.Common.{◌≡◌, ◌≢◌, ℕ, Bool, true, false, if◌then◌else◌, List, [], ◌∷◌, ◌++◌, length, refl, sym, ap, subst, ◌∙◌, ⊎_elim, arith}
+use Rattle.std.proofs.Common.{◌≡◌, ◌≢◌, ℕ, Bool, true, false, if◌then◌else◌, List, [], ◌∷◌, ◌++◌, length, refl, sym, ap, subst, ◌∙◌, ⊎_elim}
 use Rattle.std.specs.Prelude.{nat_eq}
 use Rattle.std.specs.List.{list_all, list_any}
 use Rattle.std.specs.Char.{to_ascii_lowercase}
 use Rattle.std.specs.Cmp.Lexicographic.{pointwise}
 use Rattle.std.specs.Str.{str_to_ascii_lowercase}
-use Rattle.std.proofs.lemmas.Bool.{cases_Bool, eq-eqb, eqb-true}
-use Rattle.std.proofs.lemmas.Bool.Decides.{nat_tests}
+use Rattle.std.proofs.lemmas.Bool.{cases_Bool, eq-eqb, eqb-true, ne_eqb}
 use Rattle.std.proofs.lemmas.List.{length-map}
 use Rattle.std.proofs.lemmas.Slice.Eq.{bytes_eq-Decides}
 use Rattle.sql_tree.specs.grammar.Sorts.{listed, reserved, free, word_sort}
@@ -57,9 +56,6 @@ none_as_long lengths n other (entry ∷ rest) all =
     absurd cc)
     (λ differs. rw differs (none_as_long lengths n other rest parts.1)) (cases_Bool (nat_eq (length entry.0) n))
 
-differs : (n k : ℕ) → n ≢ k → nat_eq n k ≡ false
-differs n k other = grind (arith, nat_tests)
-
 -- no word of the grammar is of another length
 pub no_words : (word : List ℕ) → length word ≢ 2 → length word ≢ 3 → length word ≢ 4 → length word ≢ 5 → length word ≢ 6 → length word ≢ 7 → length word ≢ 8 → length word ≢ 9 → length word ≢ 10 → length word ≢ 12 → s.Plain ≡ word_sort (str_to_ascii_lowercase word)
 no_words word e2 e3 e4 e5 e6 e7 e8 e9 e10 e12 = is_sort (length word) word s.Plain refl (sym (ap (λ table. listed table (str_to_ascii_lowercase word) s.Plain) none)) where
@@ -67,7 +63,7 @@ no_words word e2 e3 e4 e5 e6 e7 e8 e9 e10 e12 = is_sort (length word) word s.Pla
   lengths = 2 ∷ 3 ∷ 4 ∷ 5 ∷ 6 ∷ 7 ∷ 8 ∷ 9 ∷ 10 ∷ 12 ∷ []
 
   other : list_any (nat_eq (length word)) lengths ≡ false
-  other = rw (differs (length word) 2 e2, differs (length word) 3 e3, differs (length word) 4 e4, differs (length word) 5 e5, differs (length word) 6 e6, differs (length word) 7 e7, differs (length word) 8 e8, differs (length word) 9 e9, differs (length word) 10 e10, differs (length word) 12 e12) refl
+  other = rw (ne_eqb (length word) 2 e2, ne_eqb (length word) 3 e3, ne_eqb (length word) 4 e4, ne_eqb (length word) 5 e5, ne_eqb (length word) 6 e6, ne_eqb (length word) 7 e7, ne_eqb (length word) 8 e8, ne_eqb (length word) 9 e9, ne_eqb (length word) 10 e10, ne_eqb (length word) 12 e12) refl
 
   none : of_length (length word) (reserved ++ free) ≡ []
   none = none_as_long lengths (length word) other (reserved ++ free) refl

@@ -1,16 +1,17 @@
 -- What a statement adds that breaks no rule: columns of a table, and values of the kinds of their columns.
-use Rattle.std.proofs.Common.{◌≡◌, ◌≢◌, ◌∙◌, ℕ, suc, Bool, true, false, cond, not, nat_eq, List, [], ◌∷◌, length, Option, Some, None, IfSome, refl, sym, ap, subst, arith}
+use Rattle.std.proofs.Common.{◌≡◌, ◌≢◌, ◌∙◌, ℕ, suc, Bool, true, false, cond, not, nat_eq, List, [], ◌∷◌, length, Option, Some, None, IfSome, refl, sym, subst, arith}
+use Rattle.std.proofs.lemmas.Bool.{not-false, eqb-true}
 use Rattle.std.proofs.lemmas.List.Elements.{All-head, All-tail, All-map, All-weaker, All-contains_itself}
 use Rattle.std.specs.Cmp.Lexicographic.{pointwise, nat_list_eq_equiv}
 use Rattle.std.specs.List.{All, AllByRecursion, Contains, IsDistinct, flat_map, list_any}
 use Rattle.std.specs.Option.{option_map_or}
 use Rattle.perm_values.specs.declared.kind.Kind.{Kind}
 use Rattle.perm_values.specs.declared.kind.Kind.TheVariants as kind
+use Rattle.perm_values.proofs.Lists.{front-none, back-none}
 use Rattle.bag_algebra.specs.built.Forms.{subs_kinds}
 use Rattle.bag_algebra.specs.WellFormed.{HasKind}
 use Rattle.bag_algebra.specs.declared.query.Aggr.{Aggr}
 use Rattle.bag_algebra.specs.declared.query.Sublink.{Sublink}
-use Rattle.stored_provenance.proofs.Marks.{nat_same}
 use Rattle.perm_catalog.specs.Changes.{table_named}
 use Rattle.perm_catalog.specs.Columns.{AreTableColumns, column_kinds, column_names}
 use Rattle.perm_catalog.specs.Contents.{Contents}
@@ -26,18 +27,20 @@ use Rattle.sql_tree.specs.declared.statement.Statement.{Statement}
 use Rattle.sql_tree.specs.declared.statement.StatementBody.{StatementBody}
 use Rattle.sql_tree.specs.declared.statement.StatementBody.TheVariants as st
 use Rattle.sql_tree.specs.declared.statement.ValuesRow.{ValuesRow}
+use Rattle.bag_algebra.proofs.Truths.{left-false, right-false}
 use Rattle.name_meaning.specs.Froms.{named_so, names_of}
-use Rattle.name_meaning.specs.Meanings.{Meant, QueryMeant, means_at, broken, broken_if, is_whole, is_same_kind, seen_kind, settled, unites}
+use Rattle.name_meaning.specs.Meanings.{Meant, QueryMeant, means_at, broken, broken_if, is_same_kind, seen_kind, settled, unites}
 use Rattle.name_meaning.specs.Statements.{alone, bare, breaks, columns_of, defined_columns, kinds_of_table, made_alone, name_breaks, named_query_breaks, on_table, query_meant, repeated_columns, repeats, resolved, resolved_body, row_breaks, row_made, rows_made, taken, value_breaks, values_breaks, view_entry}
 use Rattle.name_meaning.specs.Sublinks.{nothing_before}
 use Rattle.name_meaning.specs.Trees.{part_of}
 use Rattle.name_meaning.specs.declared.answer.Break.{Break}
-use Rattle.name_meaning.proofs.Every.{front-none, back-none}
 use Rattle.name_meaning.specs.laws.Formed.{IsAnswer, IsFormedExpr}
 use Rattle.name_meaning.specs.laws.Standing.{StandAt, AggregatesStand}
+use Rattle.name_meaning.proofs.Every.{whole-kind, unbroken-not}
 use Rattle.name_meaning.proofs.TreeLaws.{expr-formed, query-answer}
 use Rattle.name_meaning.proofs.Named.{view-reads}
-use Rattle.statement_meaning.proofs.Ready.{names-whole, sound-answer, unbroken, not-false, left-false, right-false}
+use Rattle.name_meaning.proofs.Needs.{settled-of_kind}
+use Rattle.statement_meaning.proofs.Ready.{names-whole, sound-answer}
 use Rattle.statement_meaning.proofs.Stored.{answer-adds}
 use Rattle.statement_meaning.specs.laws.Sounder.{AddsSoundly, HaveKinds, RowsHaveKinds}
 use Rattle.name_meaning.specs.declared.rule.Rule.TheVariants as rule
@@ -70,7 +73,7 @@ names-differ earlier (column ∷ columns) e =
     let first : List Break = broken_if (list_any (named_so name) earlier) rule.RepeatedColumn column.name.at in
     let more : List Break = repeated_columns (name ∷ earlier) columns in
     let names : List (List ℕ) = column_names (defined_columns columns) in
-    let here = unbroken (list_any (named_so name) earlier) rule.RepeatedColumn column.name.at (front-none first more e) in
+    let here = unbroken-not (list_any (named_so name) earlier) rule.RepeatedColumn column.name.at (front-none first more e) in
     let rest = names-differ (name ∷ earlier) columns (back-none first more e) in
     ((here, earlier-apart name earlier names rest.0), (name-apart name earlier names rest.0, rest.1))
 
@@ -99,13 +102,6 @@ same-kind kind.Boolean kind.Integer e = absurd (cc e)
 same-kind kind.Boolean kind.Text e = absurd (cc e)
 same-kind kind.Boolean kind.Boolean e = refl
 
-united-settled : (k : Kind) (o : Option Kind) → unites (Some k) o ≡ true → settled o k ≡ k
-united-settled k None e = refl
-united-settled k (Some other) e = same-kind k other e
-
-seen-whole : (m : Meant) → m.breaks ≡ [] → seen_kind m ≡ m.kind
-seen-whole m whole = ap (λ (breaks : List Break). cond (is_whole breaks) m.kind None) whole
-
 module _ (c : Contents) (sound : IsSound c) where
   made-kind : (k : Kind) (tree : ExprTree) → RegularExpr tree
       → value_breaks k (part_of c tree).at (means_at (part_of c tree) (bare [])) ≡ []
@@ -114,10 +110,10 @@ module _ (c : Contents) (sound : IsSound c) where
       let m : Meant = means_at (part_of c tree) (bare []) in
       let differs : Bool = not (unites (Some k) (seen_kind m)) in
       let whole = front-none m.breaks (broken_if differs rule.UnfitKind (part_of c tree).at) e in
-      let united = not-false (unites (Some k) (seen_kind m)) (unbroken differs rule.UnfitKind (part_of c tree).at (back-none m.breaks (broken_if differs rule.UnfitKind (part_of c tree).at) e)) in
+      let united = not-false (unites (Some k) (seen_kind m)) (unbroken-not differs rule.UnfitKind (part_of c tree).at (back-none m.breaks (broken_if differs rule.UnfitKind (part_of c tree).at) e)) in
       let f : IsFormedExpr (bare []) nothing_before (m.make k nothing_before) (settled m.kind k) = expr-formed c tree (bare []) sound regular whole k nothing_before in
       subst (λ (found : Kind). HasKind ([] ∷ []) [] (made_alone k m) found)
-      (united-settled k m.kind (subst (λ (o : Option Kind). unites (Some k) o ≡ true) (seen-whole m whole) united))
+      (settled-of_kind k m.kind (subst (λ (o : Option Kind). unites (Some k) o ≡ true) (whole-kind m whole) united))
       (f.holds ([] ∷ []) [] tt
       (subst (λ (aggregates : List Aggr). AggregatesStand (bare []).scopes nothing_before.aggregates aggregates ([] ∷ [])) (sym (f.without_aggregates refl)) tt)
       (subst (λ (subs : List Sublink). StandAt nothing_before.subs (subs_kinds subs) []) (sym (f.without_subs refl)) tt))
@@ -137,7 +133,7 @@ module _ (c : Contents) (sound : IsSound c) where
   row-has kinds row regular = chosen (nat_eq (length row.values) (length kinds)) refl where
     chosen : (b : Bool) → nat_eq (length row.values) (length kinds) ≡ b → cond b (values_breaks c kinds row.values) (broken rule.UnfitWidth row.at ∷ []) ≡ []
         → HaveKinds (row_made c kinds row.values) kinds
-    chosen true same e = values-have kinds row.values (nat_same (length row.values) (length kinds) same) (all-of RegularExpr row.values regular.1) e
+    chosen true same e = values-have kinds row.values (eqb-true (length row.values) (length kinds) same) (all-of RegularExpr row.values regular.1) e
     chosen false same e = absurd (cc e)
 
   rows-have : (kinds : List Kind) (rows : List ValuesRow) → All RegularRow rows

@@ -1,8 +1,10 @@
 -- What a statement leaves of tables that store provenance: whether they are fresh then.
 use Rattle.std.proofs.Common.{◌≡◌, ◌≢◌, ℕ, true, List, [], Option, Some, None, IfSome, refl, sym, ap, subst, arith}
+use Rattle.std.proofs.lemmas.Option.{same_Some}
 use Rattle.std.specs.Prelude.{All}
 use Rattle.std.specs.FinMap.{FinMap}
 use Rattle.std.specs.Ordering.{nat_cmp}
+use Rattle.perm_values.proofs.Steps.{none_is_some}
 use Rattle.bag_algebra.specs.Bags.{Bag}
 use Rattle.perm_catalog.proofs.Named.{named-changed, named-last, named-without}
 use Rattle.perm_catalog.specs.Changes.{is_free, renewed, table_named, view_named, with_rows_of, with_table, with_view, without_table, without_view}
@@ -15,8 +17,7 @@ use Rattle.perm_catalog.specs.declared.entries.Mark.{Mark}
 use Rattle.perm_catalog.specs.declared.entries.TableEntry.{TableEntry}
 use Rattle.name_meaning.specs.declared.answer.Resolved.{Resolved}
 use Rattle.name_meaning.specs.declared.answer.Resolved.TheVariants as r
-use Rattle.stored_provenance.proofs.Marks.{some_same}
-use Rattle.stored_provenance.proofs.Soundness.{are-apart, free-table, none_is_some}
+use Rattle.stored_provenance.proofs.Soundness.{are-apart, free-table}
 use Rattle.statement_meaning.specs.Asking.{asks}
 use Rattle.statement_meaning.specs.Ready.{IsReady}
 use Rattle.statement_meaning.specs.Turns.{identity_of}
@@ -56,7 +57,7 @@ module _ (c : Contents) (sound : IsSound c) (stored : Mark) (drawn : All (IsDraw
         let change = λ (q : List ℕ). named-last name q made c.tables none in record {
           never = never-again c d name (Some made) change (are-apart c sound) (are-apart d after) stored drawn
               (λ kept numbers t is id version.
-              let new : c.next ≡ t.id = ap (λ (x : TableEntry). x.id) (some_same made t is) in
+              let new : c.next ≡ t.id = ap (λ (x : TableEntry). x.id) (same_Some made t is) in
               let low = numbers.id in
               omega (arith, low, new, id));
           stays = λ unread fresh. stays-fresh c d name (Some made) change (are-apart c sound) (are-apart d after) stored drawn
@@ -71,7 +72,7 @@ module _ (c : Contents) (sound : IsSound c) (stored : Mark) (drawn : All (IsDraw
     -- its version was drawn now
     newer-new : (kept : Kept) → IsDrawn c kept → (t : TableEntry) → Some newer ≡ Some t → t.id ≡ kept.id → t.version ≡ kept.version → ⊥
     newer-new kept numbers t e id version =
-        let new : c.next ≡ t.version = ap (λ (x : TableEntry). x.version) (some_same newer t e) in
+        let new : c.next ≡ t.version = ap (λ (x : TableEntry). x.version) (same_Some newer t e) in
         let low = numbers.version in
         omega (arith, low, new, version)
 

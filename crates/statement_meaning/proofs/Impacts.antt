@@ -12,6 +12,7 @@ use Rattle.bag_algebra.specs.TableRows.{rows_in}
 use Rattle.bag_algebra.specs.declared.expr.Expr.{Expr}
 use Rattle.bag_algebra.specs.declared.query.Answer.{Answer}
 use Rattle.bag_algebra.specs.declared.query.Query.{Query}
+use Rattle.delete_impact.specs.vanishing.Doomed.{doomed_on}
 use Rattle.delete_impact.specs.vanishing.Vanishing.{Vanishes}
 use Rattle.null_logic.specs.declared.run_fault.RunFault.{RunFault}
 use Rattle.perm_catalog.specs.Contents.{Contents}
@@ -26,7 +27,7 @@ use Rattle.sql_tree.specs.declared.statement.StatementBody.{StatementBody}
 use Rattle.statement_meaning.proofs.Asked.{asked-by_breaks}
 use Rattle.statement_meaning.proofs.Lost.{lost-vanish}
 use Rattle.statement_meaning.specs.Asking.{Settled, asked, asks}
-use Rattle.statement_meaning.specs.Turns.{Turn, Accepted, Refused, Meets, answer_text, answered, goes, identity_of, impact, on_good, reads, rows_before, rows_going, rows_lost}
+use Rattle.statement_meaning.specs.Turns.{Turn, Accepted, Refused, Meets, answer_text, answered, identity_of, impact, on_good, reads, rows_before, rows_going, rows_lost}
 use Rattle.statement_meaning.proofs.Answered.{listed-text, same_text}
 use Rattle.statement_meaning.proofs.Provenance.{same_bag-holds}
 use Rattle.statement_meaning.specs.laws.Lost.{AsksImpact, ListsLost, MeetsLost, of_query, of_condition}
@@ -136,10 +137,10 @@ module _ {X Y : Type 0} (f : X → Outcome Y) (fault : RunFault) where
 
 -- a fault of an IMPACT is one of its query or of its condition
 module _ (query : Query) (id : ℕ) (condition : Option Expr) (db : Database) (fault : RunFault) where
-  going-meets : (b : Bool) (faults : Faults) → reads id query ≡ b → cond b (each (goes condition) (db id)) (Good []) ≡ Bad faults → has faults fault ≡ true
+  going-meets : (b : Bool) (faults : Faults) → reads id query ≡ b → cond b (each (doomed_on condition) (db id)) (Good []) ≡ Bad faults → has faults fault ≡ true
       → MeetsLost query id condition db fault
   going-meets true faults read e some =
-      let met = each-meets (goes condition) fault (db id) faults e some in
+      let met = each-meets (doomed_on condition) fault (db id) faults e some in
       of_condition met.0 met.2 read (in-member met.0 (db id) met.1) met.3 met.4
   going-meets false faults read e some = absurd (cc e)
 

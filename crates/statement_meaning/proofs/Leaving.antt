@@ -19,8 +19,9 @@ use Rattle.name_meaning.specs.declared.answer.Resolved.{Resolved}
 use Rattle.name_meaning.specs.declared.answer.Resolved.TheVariants as r
 use Rattle.name_meaning.specs.declared.rule.Rule.TheVariants as rule
 use Rattle.statement_meaning.specs.Asking.{Asked, Settled, Begins, Explained, asks}
-use Rattle.statement_meaning.specs.Turns.{Turn, Accepted, Refused, Broken, add_rows, add_unbroken, answered, copy, counting, drawing, goes, identity_of, on_good, row_value, rows_before, rows_deleted, rows_lost, store_answer, with_added, with_answer}
+use Rattle.statement_meaning.specs.Turns.{Turn, Accepted, Refused, Broken, add_rows, add_unbroken, answered, copy, counting, drawing, identity_of, on_good, row_value, rows_before, rows_deleted, rows_lost, store_answer, with_added, with_answer}
 use Rattle.contribution.proofs.WhereGood.{WhereGood}
+use Rattle.delete_impact.specs.vanishing.Doomed.{doomed_on}
 use Rattle.statement_meaning.specs.laws.Leaving.{Leaves, TurnLeaves}
 use Rattle.statement_meaning.specs.laws.Sounder.{KeepsSound, StandsSound}
 
@@ -76,7 +77,7 @@ module _ (P : Contents → Type 0) where
       leaves-on_good at (each row_value rows) (add_rows (codes "INSERT ") c at name)
       (λ made. leaves-drawing c at (counting (codes "INSERT ") (length made)) (with_added c name made) (h made))
   leaves c at (r.Delete name condition) h =
-      leaves-on_good at (each (goes condition) (rows_at c (identity_of c name))) (λ doomed. drawing c at (rows_deleted c name doomed))
+      leaves-on_good at (each (doomed_on condition) (rows_at c (identity_of c name))) (λ doomed. drawing c at (rows_deleted c name doomed))
       (λ doomed. leaves-drawing c at (counting (codes "DELETE ") (count_by (λ flag. flag) doomed)) (with_fewer_rows c name (identity_of c name) doomed) (h doomed))
   leaves c at (r.DropTable name) h = h
   leaves c at (r.DropView name) h = h

@@ -5,7 +5,7 @@ use Rattle.bag_algebra.proofs.Outcomes.{both-is, same_good}
 use Rattle.bag_algebra.specs.Bags.{Row, Bag}
 use Rattle.bag_algebra.specs.Outcome.{Outcome, Good, each}
 use Rattle.bag_algebra.specs.declared.expr.Expr.{Expr}
-use Rattle.statement_meaning.specs.Turns.{goes}
+use Rattle.delete_impact.specs.vanishing.Doomed.{doomed_on}
 use Rattle.statement_meaning.specs.laws.Kept.{is_certain, rows_left}
 
 one_more : (f : Row → Outcome Bool) (row : Row) (rows : Bag) (flag : Bool) (flags : List Bool) → f row ≡ Good flag
@@ -24,5 +24,5 @@ left-by f (row ∷ rows) flags e =
     subst (λ (fs : List Bool). unmarked fs (row ∷ rows) ≡ filter (λ (r : Row). not (is_certain (f r))) (row ∷ rows)) parts.4
     (one_more f row rows parts.0 parts.1 parts.2 (left-by f rows parts.1 parts.3))
 
-pub left-rows : (condition : Option Expr) (rows : Bag) (doomed : List Bool) → each (goes condition) rows ≡ Good doomed → unmarked doomed rows ≡ rows_left condition rows
-left-rows condition rows doomed e = left-by (goes condition) rows doomed e
+pub left-rows : (condition : Option Expr) (rows : Bag) (doomed : List Bool) → each (doomed_on condition) rows ≡ Good doomed → unmarked doomed rows ≡ rows_left condition rows
+left-rows condition rows doomed e = left-by (doomed_on condition) rows doomed e

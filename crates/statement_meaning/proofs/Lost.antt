@@ -1,6 +1,6 @@
 -- The rows that an IMPACT answers are those that vanish, and the tables that a query reads are told by their identities.
 use mathlib.Core.Bool.{true≢false}
-use Rattle.std.proofs.Common.{◌≡◌, ◌≢◌, ◌∙◌, ◌==◌, ℕ, Bool, true, false, not, List, [], filter, Option, Some, None, Decides, IsTrue, refl, sym, ap, subst}
+use Rattle.std.proofs.Common.{◌≡◌, ◌≢◌, ◌∙◌, ◌==◌, ℕ, Bool, true, false, not, List, [], filter, Option, Decides, IsTrue, refl, sym, ap, subst}
 use Rattle.std.proofs.lemmas.Bool.{eqb-true, eq-eqb}
 use Rattle.bag_algebra.proofs.BagLaws.{member-filter}
 use Rattle.bag_algebra.proofs.MembersByIndex.{contains-from_in, in-from_contains}
@@ -17,14 +17,9 @@ use Rattle.contribution.proofs.SetsOfNodes.{any_in, from_any}
 use Rattle.query_laws.proofs.Once.{holds_once-once}
 use Rattle.query_laws.specs.Holding.{HoldsOnce}
 use Rattle.query_laws.specs.SublinkLists.{InAnswer}
-use Rattle.delete_impact.specs.vanishing.Doomed.{after_deletion, doomed_on}
+use Rattle.delete_impact.specs.vanishing.Doomed.{after_deletion}
 use Rattle.delete_impact.specs.vanishing.Vanishing.{Vanishes}
-use Rattle.statement_meaning.specs.Turns.{goes, is_answered, reads, rows_lost}
-
--- which rows go is said alike of DELETE and of deletions
-pub same-goes : (condition : Option Expr) → goes condition ≡ doomed_on condition
-same-goes None = refl
-same-goes (Some condition) = refl
+use Rattle.statement_meaning.specs.Turns.{is_answered, reads, rows_lost}
 
 -- ---- the rows
 

@@ -1,8 +1,11 @@
 -- A statement that breaks no rule names what is there, and its query can run.
-use Rattle.std.proofs.Common.{◌≡◌, ◌∙◌, ℕ, suc, Bool, true, false, cond, not, ◌||◌, List, [], ◌∷◌, ◌++◌, length, Option, Some, None, IsSome, refl, sym, ap, subst}
+use Rattle.std.proofs.Common.{◌≡◌, ◌∙◌, ℕ, true, false, not, List, [], ◌∷◌, ◌++◌, length, Option, Some, None, IsSome, refl, sym, ap, subst}
+use Rattle.std.proofs.lemmas.Bool.{not-false}
 use Rattle.std.proofs.lemmas.List.Elements.{All-contains}
 use Rattle.std.specs.Option.{option_map_or}
 use Rattle.std.specs.Prelude.{is_none, is_some}
+use Rattle.perm_values.proofs.Lists.{front-none, back-none}
+use Rattle.perm_values.proofs.Steps.{is_none-is}
 use Rattle.bag_algebra.proofs.TablesRead.{each_table-from_told}
 use Rattle.bag_algebra.specs.TablesRead.{EachTable, TableRead, tables_read}
 use Rattle.query_facts.specs.monotone.Conditions.{ConditionFits}
@@ -19,69 +22,42 @@ use Rattle.sql_tree.specs.declared.query.QueryTree.{QueryTree}
 use Rattle.sql_tree.specs.declared.statement.Statement.{Statement}
 use Rattle.sql_tree.specs.declared.statement.StatementBody.{StatementBody}
 use Rattle.sql_tree.specs.declared.statement.StatementBody.TheVariants as st
-use Rattle.name_meaning.specs.Meanings.{OutColumn, QueryMeant, broken, broken_if, is_whole}
+use Rattle.name_meaning.specs.Meanings.{OutColumn, QueryMeant, broken, broken_if}
 use Rattle.name_meaning.specs.Froms.{names_of, settled_columns}
 use Rattle.name_meaning.specs.Queries.{may_not_ask}
 use Rattle.name_meaning.specs.Statements.{alone, answer_of, columns_of, delete_made, has_boolean, impact_query, query_meant, breaks, name_breaks, limit_breaks, named_query_breaks, on_table, repeated_columns, repeats, resolved, resolved_body, taken, unknown_table, unknown_view, used, view_entry}
 use Rattle.name_meaning.specs.declared.answer.Break.{Break}
-use Rattle.name_meaning.proofs.Every.{front-none, back-none}
-use Rattle.name_meaning.proofs.Impacts.{impact-stands}
+use Rattle.name_meaning.proofs.Every.{unbroken-not}
+use Rattle.name_meaning.proofs.Impacts.{impact-stands, earlier-none}
 use Rattle.name_meaning.proofs.Named.{view-reads}
 use Rattle.name_meaning.proofs.TreeLaws.{query-answer, query-closed, query-wide}
 use Rattle.name_meaning.proofs.FittingTables.{tables-fit}
+use Rattle.name_meaning.proofs.Settled.{settled-names}
 use Rattle.name_meaning.specs.laws.Formed.{IsAnswer}
 use Rattle.stored_provenance.specs.Held.{IsHeldTable}
 use Rattle.statement_meaning.specs.Ready.{CanExplain, CanLose, CanRun, IsReady}
 use Rattle.name_meaning.specs.declared.rule.Rule.TheVariants as rule
-use Rattle.name_meaning.specs.declared.rule.Rule.{Rule}
 
 -- the rules of names are looked at first
 pub names-whole : (c : Contents) (statement : Statement) → breaks c statement ≡ [] → name_breaks c statement.body ≡ []
-names-whole c statement = chosen (name_breaks c statement.body) (limit_breaks c statement.body) where
-  chosen : (names limits : List Break) → cond (is_whole names) limits names ≡ [] → names ≡ []
-  chosen [] limits e = refl
-  chosen (first ∷ more) limits e = e
-
-pub unbroken : (is_broken : Bool) (which : Rule) (at : ℕ) → broken_if is_broken which at ≡ [] → is_broken ≡ false
-unbroken true which at e = absurd (cc e)
-unbroken false which at e = refl
-
-pub not-false : (b : Bool) → not b ≡ false → b ≡ true
-not-false true e = refl
-not-false false e = absurd (cc e)
-
-pub left-false : (a b : Bool) → (a || b) ≡ false → a ≡ false
-left-false true b h = absurd (cc h)
-left-false false b h = refl
-
-pub right-false : (a b : Bool) → (a || b) ≡ false → b ≡ false
-right-false true b h = absurd (cc h)
-right-false false b h = h
+names-whole c statement = earlier-none (name_breaks c statement.body) (limit_breaks c statement.body)
 
 there : {X : Type 0} (o : Option X) → is_none o ≡ false → IsSome o
 there None e = absurd (cc e)
 there (Some x) e = refl
 
-nothing : {X : Type 0} (o : Option X) → is_some o ≡ false → o ≡ None
-nothing None e = refl
-nothing (Some x) e = absurd (cc e)
-
-pub names-long : (columns : List OutColumn) → length (names_of (settled_columns columns)) ≡ length columns
-names-long [] = refl
-names-long (column ∷ columns) = ap suc (names-long columns)
-
 module _ (c : Contents) where
   free : (name : Name) → taken c name ≡ [] → is_free c name.text ≡ true
-  free name e = not-false (is_free c name.text) (unbroken (not (is_free c name.text)) rule.TakenName name.at e)
+  free name e = not-false (is_free c name.text) (unbroken-not (not (is_free c name.text)) rule.TakenName name.at e)
 
   known : (name : Name) → unknown_table c name ≡ [] → IsSome (table_named c name.text)
-  known name e = there (table_named c name.text) (unbroken (is_none (table_named c name.text)) rule.UnknownRelation name.at e)
+  known name e = there (table_named c name.text) (unbroken-not (is_none (table_named c name.text)) rule.UnknownRelation name.at e)
 
   known-view : (name : Name) → unknown_view c name ≡ [] → IsSome (view_named c name.text)
-  known-view name e = there (view_named c name.text) (unbroken (is_none (view_named c name.text)) rule.UnknownRelation name.at e)
+  known-view name e = there (view_named c name.text) (unbroken-not (is_none (view_named c name.text)) rule.UnknownRelation name.at e)
 
   unused : (name : Name) → used c name ≡ [] → first_user c name.text ≡ None
-  unused name e = nothing (first_user c name.text) (unbroken (is_some (first_user c name.text)) rule.UsedByView name.at e)
+  unused name e = is_none-is (first_user c name.text) (unbroken-not (is_some (first_user c name.text)) rule.UsedByView name.at e)
 
   looked-at : (name : Name) (looked : TableEntry → List Break) → on_table c name looked ≡ [] → IsSome (table_named c name.text)
   looked-at name looked = chosen (table_named c name.text) where
@@ -114,7 +90,7 @@ module _ (c : Contents) where
       record {
         closed = (query-closed c tree alone sound regular whole refl []).0;
         some = query-wide c tree alone sound regular whole [];
-        named = ap (λ (o : Option (List OutColumn)). length (names_of (option_map_or settled_columns o []))) a.known ∙ names-long a.columns ∙ a.named [];
+        named = ap (λ (o : Option (List OutColumn)). length (names_of (option_map_or settled_columns o []))) a.known ∙ settled-names a.columns ∙ a.named [];
         keys = a.keys [];
       }
 

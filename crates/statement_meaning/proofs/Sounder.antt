@@ -3,7 +3,7 @@ use Rattle.std.proofs.Common.{◌≡◌, ◌∙◌, ℕ, Bool, true, List, [], �
 use Rattle.std.proofs.lemmas.Bool.{and_from}
 use Rattle.std.specs.List.{count_by}
 use Rattle.std.specs.Option.{option_map_or}
-use Rattle.perm_values.specs.Rows.{row_fits, bag_fits, printed_cmp}
+use Rattle.perm_values.specs.Rows.{row_fits, bag_fits, printed_cmp, PlacesWithin}
 use Rattle.perm_values.specs.Values.{fits}
 use Rattle.perm_values.specs.declared.kind.Kind.{Kind}
 use Rattle.bag_algebra.proofs.SortedBags.{same_bag-sorted}
@@ -15,7 +15,7 @@ use Rattle.bag_algebra.specs.Outcome.{Outcome, Good, Bad, each}
 use Rattle.bag_algebra.specs.Rewriting.{SameRows}
 use Rattle.bag_algebra.specs.TableRows.{rows_in}
 use Rattle.bag_algebra.specs.TablesRead.{EachTable}
-use Rattle.bag_algebra.specs.WellFormed.{PlacesIn, WellFormed}
+use Rattle.bag_algebra.specs.WellFormed.{WellFormed}
 use Rattle.bag_algebra.specs.built.Patterns.{ProvOf}
 use Rattle.bag_algebra.specs.declared.expr.Expr.{Expr}
 use Rattle.bag_algebra.specs.declared.query.Answer.{Answer}
@@ -37,12 +37,13 @@ use Rattle.perm_catalog.specs.Stored.{IsFresh, IsSoundMark, mark_of}
 use Rattle.perm_catalog.specs.declared.column.Column.{Column}
 use Rattle.perm_catalog.specs.declared.entries.TableEntry.{TableEntry}
 use Rattle.perm_io.specs.Found.{Found, Read, Missing, TooLong, Failed}
+use Rattle.delete_impact.specs.vanishing.Doomed.{doomed_on}
 use Rattle.name_meaning.specs.declared.answer.Resolved.{Resolved}
 use Rattle.name_meaning.specs.declared.answer.Resolved.TheVariants as r
 use Rattle.statement_meaning.specs.Asking.{asks}
 use Rattle.stored_provenance.specs.Held.{IsHeldTable}
 use Rattle.statement_meaning.specs.Ready.{CanRun, IsReady}
-use Rattle.statement_meaning.specs.Turns.{drawing, counting, identity_of, with_added, add_rows, add_unbroken, answered, copy, goes, row_value, rows_before, rows_deleted, rows_lost, remembered, store_answer, with_answer}
+use Rattle.statement_meaning.specs.Turns.{drawing, counting, identity_of, with_added, add_rows, add_unbroken, answered, copy, row_value, rows_before, rows_deleted, rows_lost, remembered, store_answer, with_answer}
 use Rattle.statement_meaning.proofs.Leaving.{leaves-drawing, leaves-good}
 use Rattle.statement_meaning.specs.laws.Sounder.{AddsAnswer, AsksAt, HaveKinds, RowsHaveKinds, AddsSoundly, StandsSound, KeepsSound}
 
@@ -99,7 +100,7 @@ MarkHolds c columns rows places query = IsSoundMark c columns rows (mark_of c qu
 abbrev pub NewMark : Type 0
 NewMark = (c : Contents) (columns : List Column) (rows : Bag) (input : Query) (places : List ℕ) → IsSound c
     → WellFormed [] (ProvOf input) → EachTable (IsHeldTable c) (ProvOf input)
-    → kinds_of (ProvOf input) ≡ column_kinds columns → PlacesIn (length columns) places
+    → kinds_of (ProvOf input) ≡ column_kinds columns → PlacesWithin (length columns) places
     → SameRows (meaning (ProvOf input) (rows_in c.rows) []) (Good rows) → MarkHolds c columns rows places (ProvOf input)
 
 module _ (new_mark : NewMark) (c : Contents) (sound : IsSound c) where
@@ -188,7 +189,7 @@ module _ (new_mark : NewMark) (c : Contents) (sound : IsSound c) where
       (λ made fit. added-turn (codes "INSERT ") at name table.0 made table.1 fit)
   keeps-sound at (r.Delete name condition) some adds =
       let table = known (table_named c name) some in
-      let flags : Outcome (List Bool) = each (goes condition) (rows_at c (identity_of c name)) in
+      let flags : Outcome (List Bool) = each (doomed_on condition) (rows_at c (identity_of c name)) in
       leaves-good IsSound (λ (doomed : List Bool). Unit {0}) at flags (λ doomed. drawing c at (rows_deleted c name doomed)) (any_value flags)
       (λ doomed h. leaves-drawing IsSound c at (counting (codes "DELETE ") (count_by (λ flag. flag) doomed)) (with_fewer_rows c name (identity_of c name) doomed)
       (fewer-sound name table.0 doomed table.1))

@@ -5,10 +5,11 @@ use Rattle.std.specs.Cmp.Lexicographic.{pointwise}
 use Rattle.std.specs.List.{All, AllByRecursion, IsDistinct, list_any}
 use Rattle.std.specs.Option.{option_map_or}
 use Rattle.std.specs.Prelude.{nat_eq, ℤ}
+use Rattle.perm_values.specs.Rows.{PlacesWithin}
 use Rattle.perm_values.specs.declared.kind.Kind.{Kind}
 use Rattle.perm_values.specs.declared.kind.Kind.TheVariants as kind
+use Rattle.perm_values.proofs.Lists.{back-none}
 use Rattle.bag_algebra.specs.Kinds.{kinds_of, width_of}
-use Rattle.bag_algebra.specs.WellFormed.{PlacesIn}
 use Rattle.bag_algebra.specs.built.Openings.{Prov-is}
 use Rattle.bag_algebra.specs.built.Patterns.{ProvOf}
 use Rattle.bag_algebra.specs.declared.query.Query.{Query}
@@ -21,6 +22,7 @@ use Rattle.sql_tree.specs.declared.name.Name.{Name}
 use Rattle.sql_tree.specs.declared.query.OrderTree.{OrderTree}
 use Rattle.sql_tree.specs.declared.query.QueryTree.{QueryTree}
 use Rattle.sql_tree.specs.declared.statement.StatementBody.TheVariants as st
+use Rattle.bag_algebra.proofs.Truths.{left-false, right-false}
 use Rattle.name_meaning.specs.Cores.{BodyPart}
 use Rattle.name_meaning.specs.Froms.{named_so, names_of, settled_columns}
 use Rattle.name_meaning.specs.Meanings.{Around, OutColumn, QueryMeant, broken_if}
@@ -29,13 +31,13 @@ use Rattle.name_meaning.specs.Scopes.{KnownColumn}
 use Rattle.name_meaning.specs.Statements.{alone, columns_of, has_boolean, name_breaks, named_query_breaks, query_meant, repeats, stored_columns, taken}
 use Rattle.name_meaning.specs.Trees.{set_of_tree}
 use Rattle.name_meaning.specs.declared.rule.Rule.TheVariants as rule
-use Rattle.name_meaning.proofs.Every.{back-none}
-use Rattle.name_meaning.proofs.KindsOf.{kinds-settled_columns}
+use Rattle.name_meaning.proofs.Every.{unbroken-not}
+use Rattle.name_meaning.proofs.Settled.{settled-kinds}
 use Rattle.name_meaning.proofs.TreeLaws.{query-answer, query-closed, query-wide}
 use Rattle.name_meaning.proofs.Trees.{query-known}
 use Rattle.name_meaning.specs.laws.Formed.{IsAnswer}
 use Rattle.name_meaning.specs.laws.Known.{HasItsKinds, column_kinds_of}
-use Rattle.statement_meaning.proofs.Ready.{left-false, right-false, named-whole, query-whole, tables-held, unbroken}
+use Rattle.statement_meaning.proofs.Ready.{named-whole, query-whole, tables-held}
 use Rattle.statement_meaning.proofs.Words.{opened}
 use Rattle.statement_meaning.specs.laws.Sounder.{AddsAnswer, AsksAt}
 
@@ -108,10 +110,10 @@ asks-seen around at body order limit =
     asks-by (asks_provenance around body) at (body.means around) (body.means around) order limit
 
 asks-at : (columns : List Column) (query : Query) (width : ℕ) (places : Option (List ℕ)) → width ≡ length columns
-    → IfSome places (λ (there : List ℕ). Asks query) → IfSome places (PlacesIn width) → IfSome places (AsksAt columns query)
+    → IfSome places (λ (there : List ℕ). Asks query) → IfSome places (PlacesWithin width) → IfSome places (AsksAt columns query)
 asks-at columns query width None same asks within = tt
 asks-at columns query width (Some places) same asks within =
-    record { input = asks.0; asks = asks.1; within = subst (λ (n : ℕ). PlacesIn n places) same within }
+    record { input = asks.0; asks = asks.1; within = subst (λ (n : ℕ). PlacesWithin n places) same within }
 
 module _ (c : Contents) (sound : IsSound c) (table : Name) (tree : QueryTree) (regular : RegularQuery tree)
     (whole : name_breaks c (st.CreateTableAs table tree) ≡ []) where
@@ -142,17 +144,17 @@ module _ (c : Contents) (sound : IsSound c) (table : Name) (tree : QueryTree) (r
     some = some-stored columns (subst (λ (n : ℕ). 0 < n) wide (query-wide c tree alone sound regular query_none []));
     named = subst (IsDistinct (pointwise nat_eq)) (sym (names-stored (columns_of m)))
         (differ-unrepeated (names_of (columns_of m))
-        (unbroken (repeats (names_of (columns_of m))) rule.RepeatedColumn tree.at
+        (unbroken-not (repeats (names_of (columns_of m))) rule.RepeatedColumn tree.at
         (back-none m.breaks (broken_if (repeats (names_of (columns_of m))) rule.RepeatedColumn tree.at) named)));
     stored = none-boolean (columns_of m)
-        (unbroken (has_boolean (columns_of m)) rule.UnfitKind tree.at
+        (unbroken-not (has_boolean (columns_of m)) rule.UnfitKind tree.at
         (back-none (taken c table ++ named_query_breaks tree.at m) (broken_if (has_boolean (columns_of m)) rule.UnfitKind tree.at) whole));
   }
 
   kinds-are : kinds_of (m.make []) ≡ column_kinds columns
   kinds-are =
       let shown : HasItsKinds m = query-known c tree alone sound query_none in
-      shown.kinds [] ∙ kinds-settled_columns shown.columns
+      shown.kinds [] ∙ settled-kinds shown.columns
       ∙ ap column_kinds_of (sym (ap (λ (o : Option (List OutColumn)). option_map_or settled_columns o []) shown.known))
       ∙ sym (kinds-stored (columns_of m))
 

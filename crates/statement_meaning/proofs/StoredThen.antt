@@ -1,9 +1,11 @@
 -- What a statement leaves of the tables that it makes, of those that it writes, and of the others.
 use Rattle.std.proofs.Common.{◌≡◌, ◌≢◌, ℕ, true, List, [], length, Option, Some, None, IfSome, codes, refl, sym, ap, subst, ◌∙◌}
+use Rattle.std.proofs.lemmas.Option.{same_Some}
 use Rattle.std.specs.FinMap.{FinMap}
 use Rattle.std.specs.Ordering.{nat_cmp}
 use Rattle.std.specs.Option.{option_and_then}
 use Rattle.perm_values.specs.Rows.{printed_cmp}
+use Rattle.perm_values.proofs.Steps.{none_is_some}
 use Rattle.bag_algebra.specs.Bags.{Bag, sorted}
 use Rattle.bag_algebra.specs.Meaning.{meaning}
 use Rattle.bag_algebra.specs.Outcome.{Good}
@@ -20,8 +22,7 @@ use Rattle.perm_catalog.specs.declared.entries.Mark.{Mark}
 use Rattle.perm_catalog.specs.declared.entries.TableEntry.{TableEntry}
 use Rattle.name_meaning.specs.declared.answer.Resolved.{Resolved}
 use Rattle.name_meaning.specs.declared.answer.Resolved.TheVariants as r
-use Rattle.stored_provenance.proofs.Marks.{some_same}
-use Rattle.stored_provenance.proofs.Soundness.{free-table, none_is_some}
+use Rattle.stored_provenance.proofs.Soundness.{free-table}
 use Rattle.statement_meaning.specs.Asking.{asks}
 use Rattle.statement_meaning.specs.Ready.{IsReady}
 use Rattle.statement_meaning.specs.Turns.{Accepted, counting, freshness_told, freshness_text, identity_of, show_fresh, stored_at, store_answer, with_answer}
@@ -98,11 +99,11 @@ forgets-cases c name (r.CreateTable other columns) ready is = none_is_some is
 forgets-cases c name (r.CreateTableAs other columns answer places) ready is = none_is_some is
 forgets-cases c name (r.CreateView other entry) ready is = none_is_some is
 forgets-cases c name (r.Copy other kinds file null_field header) some is =
-    let t = known (table_named c other) some in λ rows. forgets c name other (some_same other name is) t.0 t.1 _
+    let t = known (table_named c other) some in λ rows. forgets c name other (same_Some other name is) t.0 t.1 _
 forgets-cases c name (r.Insert other rows) some is =
-    let t = known (table_named c other) some in λ made. forgets c name other (some_same other name is) t.0 t.1 _
+    let t = known (table_named c other) some in λ made. forgets c name other (same_Some other name is) t.0 t.1 _
 forgets-cases c name (r.Delete other condition) some is =
-    let t = known (table_named c other) some in λ doomed. forgets c name other (some_same other name is) t.0 t.1 _
+    let t = known (table_named c other) some in λ doomed. forgets c name other (same_Some other name is) t.0 t.1 _
 forgets-cases c name (r.DropTable other) ready is = none_is_some is
 forgets-cases c name (r.DropView other) ready is = none_is_some is
 forgets-cases c name (r.Select answer) ready is = none_is_some is

@@ -1,12 +1,11 @@
 -- No rule of names and kinds is the want of a number to draw.
-use Rattle.std.proofs.Common.{◌≡◌, ◌≢◌, ◌∙◌, ℕ, Bool, true, false, true≢false, cond, not, ◌&&◌, is_none, is_some, nat_eq, nat_lt, find, List, [], ◌∷◌, ◌++◌, map, length, Option, Some, None, Contains, refl, sym, ap, subst, inl, inr}
+use Rattle.std.proofs.Common.{◌≡◌, ◌≢◌, ◌∙◌, ℕ, Bool, true, false, true≢false, cond, not, ◌&&◌, is_none, is_some, nat_eq, nat_lt, find, List, [], ◌∷◌, ◌++◌, map, length, Option, Some, None, Contains, refl, sym, ap}
 use Rattle.std.specs.List.{count_by, flat_map, list_any}
 use Rattle.std.specs.Option.{option_map_or}
 use Rattle.null_logic.specs.declared.operator.Operator.TheVariants as x
 use Rattle.null_logic.specs.declared.compare.Compare.TheVariants.{Equal, NotEqual}
 use Rattle.perm_values.specs.declared.kind.Kind.{Kind}
 use Rattle.perm_values.specs.declared.kind.Kind.TheVariants as kind
-use Rattle.bag_algebra.proofs.Members.{IsIn}
 use Rattle.bag_algebra.proofs.MembersByIndex.{in-from_contains}
 use Rattle.bag_algebra.specs.declared.expr.Expr.{Expr}
 use Rattle.bag_algebra.specs.declared.expr.Expr.TheVariants.{Op, IsNull, IsTruth, Same}
@@ -53,12 +52,13 @@ use Rattle.name_meaning.specs.declared.need.Need.TheVariants.{OfKind as of_kind,
 use Rattle.name_meaning.specs.declared.scope.Found.{Found}
 use Rattle.name_meaning.specs.declared.scope.Found.TheVariants as column
 use Rattle.name_meaning.specs.declared.scope.Scope.{Scope}
-use Rattle.name_meaning.proofs.Every.{Every, every-append, every-flat_map, every-map}
+use Rattle.name_meaning.proofs.Every.{every-flat_map, every-map}
 use Rattle.name_meaning.proofs.Induction.{BodyParts, ItemParts, SetParts, SourceParts, CoreParts, Optional, AreKept, kept-part, kept-query}
 use Rattle.name_meaning.specs.declared.rule.Rule.TheVariants as rule
 use Rattle.name_meaning.specs.declared.rule.Rule.{Rule}
 use Rattle.name_meaning.specs.Codes.{code_of}
 use Rattle.sql_tree.specs.Regular.{is_lateral}
+use Rattle.contribution.proofs.WhereGood.{Every, every-append, each-in}
 
 abbrev pub IsUnspent : Break → Type 0
 IsUnspent b = b.rule ≢ rule.NumbersSpent
@@ -556,10 +556,5 @@ module _ (c : Contents) where
   pub breaks-unspent : (statement : Statement) → Unspent (breaks c statement)
   breaks-unspent statement = chosen (is_whole (name_breaks c statement.body)) _ _ (unspent-limits statement.body) (unspent-names statement.body)
 
-every-in : {X : Type 0} (P : X → Type 0) (x : X) (xs : List X) → Every P xs → IsIn x xs → P x
-every-in P x [] h k = absurd k
-every-in P x (y ∷ ys) h (inl e) = subst P e h.0
-every-in P x (y ∷ ys) h (inr k) = every-in P x ys h.1 k
-
 pub no-number : (c : Contents) (statement : Statement) (b : Break) → Contains (breaks c statement) b → b.rule ≢ rule.NumbersSpent
-no-number c statement b h = every-in IsUnspent b (breaks c statement) (breaks-unspent c statement) (in-from_contains b (breaks c statement) h)
+no-number c statement b h = each-in IsUnspent b (breaks c statement) (breaks-unspent c statement) (in-from_contains b (breaks c statement) h)

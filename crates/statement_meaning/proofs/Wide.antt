@@ -22,8 +22,9 @@ use Rattle.name_meaning.specs.Froms.{names_of, settled_columns}
 use Rattle.name_meaning.specs.Meanings.{Around, OutColumn, query_means_at}
 use Rattle.name_meaning.specs.Statements.{alone, answer_of, name_breaks}
 use Rattle.name_meaning.specs.Trees.{query_of}
+use Rattle.name_meaning.proofs.Settled.{settled-names}
 use Rattle.name_meaning.proofs.TreeLaws.{query-answer}
-use Rattle.statement_meaning.proofs.Ready.{names-long, names-whole}
+use Rattle.statement_meaning.proofs.Ready.{names-whole}
 use Rattle.statement_meaning.proofs.Answered.{query-of}
 use Rattle.statement_meaning.proofs.Provenance.{fitting-query}
 use Rattle.statement_meaning.specs.laws.Asks.{AsksFor}
@@ -32,7 +33,7 @@ pub tree-named : (c : Contents) (tree : QueryTree) (around : Around) → IsSound
     → length (answer_of (query_means_at (query_of c tree) around)).names ≡ width_of (answer_of (query_means_at (query_of c tree) around)).query
 tree-named c tree around sound regular whole =
     let named = query-answer c tree around sound regular whole in
-    ap (λ columns. length (names_of (option_map_or settled_columns columns []))) named.known ∙ names-long named.columns ∙ named.named []
+    ap (λ columns. length (names_of (option_map_or settled_columns columns []))) named.known ∙ settled-names named.columns ∙ named.named []
 
 header-wide : (c : Contents) (statement : Statement) (answer : Answer) → IsSound c → RegularStatement statement → AsksFor c statement answer
     → length answer.names ≡ width_of answer.query

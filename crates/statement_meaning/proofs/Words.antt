@@ -2,42 +2,29 @@
 use Rattle.std.proofs.Common.{◌≡◌, ◌∙◌, ℕ, Bool, cond, List, [], ◌∷◌, ◌++◌, map, Option, Some, None, refl, sym, ap, subst}
 use Rattle.std.specs.Option.{option_map_or}
 use Rattle.std.specs.Prelude.{is_some, option_map}
+use Rattle.perm_values.proofs.Lists.{front-none}
 use Rattle.bag_algebra.specs.declared.query.Answer.{Answer}
 use Rattle.bag_algebra.specs.declared.query.Query.{Query}
 use Rattle.bag_algebra.specs.declared.query.Query.TheVariants.{Prov}
 use Rattle.perm_catalog.specs.Contents.{Contents}
 use Rattle.perm_catalog.specs.Sound.{IsSound}
-use Rattle.sql_tree.specs.declared.expression.ArmTree.{ArmTree}
-use Rattle.sql_tree.specs.declared.expression.ExprBody.{ExprBody}
-use Rattle.sql_tree.specs.declared.expression.ExprBody.TheFolds.{fold-roll-Core, map-Core}
-use Rattle.sql_tree.specs.declared.expression.ExprBody.TheOpen.{Core-F}
-use Rattle.sql_tree.specs.declared.expression.ExprBody.TheViews.{out-roll-Core, roll-out-Core}
-use Rattle.sql_tree.specs.declared.expression.ExprStep.{ExprStep}
-use Rattle.sql_tree.specs.declared.expression.ExprTree.{ExprTree}
+use Rattle.sql_tree.specs.declared.expression.ExprBody.TheViews.{out-roll-Core}
 use Rattle.sql_tree.specs.declared.query.Core.{Core, out-Core, roll-Core}
-use Rattle.sql_tree.specs.declared.query.SelectItem.{SelectItem}
-use Rattle.sql_tree.specs.declared.query.SetStep.{SetStep}
 use Rattle.sql_tree.specs.declared.query.SetTree.TheVariants as set
-use Rattle.sql_tree.specs.declared.source.FromItem.{FromItem}
-use Rattle.sql_tree.specs.declared.source.FromSource.{FromSource}
-use Rattle.sql_tree.specs.declared.source.FromTree.{FromTree}
-use Rattle.sql_tree.specs.declared.source.JoinStep.{JoinStep}
 use Rattle.sql_tree.specs.declared.query.QueryTree.{QueryTree}
 use Rattle.sql_tree.specs.declared.query.SetTree.{SetTree}
 use Rattle.sql_tree.specs.declared.statement.Statement.{Statement}
 use Rattle.sql_tree.specs.declared.statement.StatementBody.{StatementBody}
 use Rattle.sql_tree.specs.declared.statement.StatementBody.TheVariants as st
-use Rattle.name_meaning.proofs.Equations.{CoreFrame, token, querytree-record, settree-core, settree-chain}
+use Rattle.name_meaning.proofs.Equations.{token, querytree-record, settree-core, settree-chain}
+use Rattle.name_meaning.proofs.Opened.{CoreLayer, shown_core, opened_core}
 use Rattle.name_meaning.specs.Cores.{BodyPart, core_step}
-use Rattle.name_meaning.specs.Expressions.{Body, StepPart, ArmPart, body_step, arm_step, step_step, expr_step}
-use Rattle.name_meaning.specs.Froms.{SourcePart, FromItemPart, FromPart, JoinPart, source_step, from_item_step, from_step, join_step, names_of, settled_columns}
-use Rattle.name_meaning.specs.Items.{SelectPart, item_step}
-use Rattle.name_meaning.specs.Meanings.{OutColumn, Part, QueryMeant, QueryPart, is_whole, query_means_at}
-use Rattle.name_meaning.specs.Queries.{SetStepPart, keys_breaks, keys_of, limited, plain_query, columns_with_provenance, query_with_provenance, provenance_columns, query_seen, query_step, set_chain, set_step, set_step_step}
+use Rattle.name_meaning.specs.Froms.{names_of, settled_columns}
+use Rattle.name_meaning.specs.Meanings.{OutColumn, QueryMeant, QueryPart, is_whole, query_means_at}
+use Rattle.name_meaning.specs.Queries.{keys_breaks, keys_of, limited, plain_query, columns_with_provenance, query_with_provenance, provenance_columns, query_seen, set_chain}
 use Rattle.name_meaning.specs.Statements.{alone, answer_of, name_breaks, query_meant, resolved_body}
-use Rattle.name_meaning.specs.Trees.{body_of, item_of, set_of_tree, source_of, arm_of, step_of, part_of, core_of, query_of, set_step_of, from_item_of, from_of, join_of}
+use Rattle.name_meaning.specs.Trees.{set_of_tree, core_of, set_step_of}
 use Rattle.name_meaning.specs.declared.answer.Break.{Break}
-use Rattle.name_meaning.proofs.Every.{front-none}
 use Rattle.name_meaning.proofs.Trees.{set-known}
 use Rattle.statement_meaning.proofs.Ready.{names-whole}
 use Rattle.statement_meaning.proofs.Answered.{same_answer}
@@ -45,22 +32,8 @@ use Rattle.statement_meaning.specs.laws.Asks.{AsksFor, HasWord, IsResolved, With
 
 -- ---- the word, from the tree
 
--- a core's step, its parts seen
-abbrev core_layer : Type 0
-core_layer = Core-F ExprBody SelectItem SetTree FromSource ArmTree ExprStep ExprTree Core QueryTree SetStep FromItem FromTree JoinStep
-
-abbrev core_shown : Contents → core_layer → CoreFrame
-core_shown c layer = map-Core ExprBody SelectItem SetTree FromSource ArmTree ExprStep ExprTree Core QueryTree SetStep FromItem FromTree JoinStep
-    Body SelectPart BodyPart SourcePart ArmPart StepPart Part BodyPart QueryPart SetStepPart FromItemPart FromPart JoinPart
-    (body_of c) (item_of c) (set_of_tree c) (source_of c) (arm_of c) (step_of c) (part_of c) (core_of c) (query_of c) (set_step_of c) (from_item_of c) (from_of c) (join_of c) layer
-
-core-opened : (c : Contents) (core : Core) → core_of c core ≡ core_step (core_shown c (out-Core core))
-unfolding body_of item_of set_of_tree source_of arm_of step_of part_of core_of query_of set_step_of from_item_of from_of join_of
-core-opened c core = ap (core_of c) (sym (roll-out-Core core)) ∙ fold-roll-Core Body SelectPart BodyPart SourcePart ArmPart StepPart Part BodyPart QueryPart SetStepPart FromItemPart FromPart JoinPart
-    body_step item_step set_step source_step arm_step step_step expr_step core_step query_step set_step_step (from_item_step c) from_step join_step (out-Core core)
-
 core-word : (c : Contents) (core : Core) → (core_of c core).word ≡ (out-Core core).provenance
-core-word c core = ap (λ (part : BodyPart). part.word) (core-opened c core)
+core-word c core = ap (λ (part : BodyPart). part.word) (opened_core c core)
 
 word-at : (c : Contents) (at : ℕ) (tree : SetTree) → HasWord at tree → (set_of_tree c tree).word ≡ Some at
 unfolding token
@@ -71,7 +44,7 @@ word-at c at tree (in_first first steps h) = ap (λ (part : BodyPart). part.word
 
 pub without-word : (at : ℕ) (tree : SetTree) → HasWord at tree → (plain : SetTree) × WithoutWord tree plain
 without-word at tree (in_core core e) =
-    let layer : core_layer = record (out-Core core) { provenance = None } in
+    let layer : CoreLayer = record (out-Core core) { provenance = None } in
     (set.Core (roll-Core layer), plain_core core (roll-Core layer) (out-roll-Core layer))
 without-word at tree (in_first first steps h) =
     let plain = without-word at first h in
@@ -80,21 +53,21 @@ without-word at tree (in_first first steps h) =
 pub no_word : (c : Contents) (tree plain : SetTree) → WithoutWord tree plain → (set_of_tree c plain).word ≡ None
 unfolding token
 no_word c tree plain (plain_core core other e) =
-    ap (λ (part : BodyPart). part.word) (settree-core c other) ∙ core-word c other ∙ ap (λ (layer : core_layer). layer.provenance) e
+    ap (λ (part : BodyPart). part.word) (settree-core c other) ∙ core-word c other ∙ ap (λ (layer : CoreLayer). layer.provenance) e
 no_word c tree plain (plain_first first other steps h) =
     ap (λ (part : BodyPart). part.word) (settree-chain c other steps) ∙ no_word c first other h
 
 -- at the front of a whole query the word is no break
-wordless : (c : Contents) (layer : core_layer) → (core_step (core_shown c layer)).means alone ≡ (core_step (core_shown c (record layer { provenance = None }))).means alone
+wordless : (c : Contents) (layer : CoreLayer) → (core_step (shown_core c layer)).means alone ≡ (core_step (shown_core c (record layer { provenance = None }))).means alone
 wordless c layer = refl
 
 same-without : (c : Contents) (tree plain : SetTree) → WithoutWord tree plain → (set_of_tree c tree).means alone ≡ (set_of_tree c plain).means alone
 unfolding token
 same-without c tree plain (plain_core core other e) =
-    ap (λ (part : BodyPart). part.means alone) (settree-core c core ∙ core-opened c core)
+    ap (λ (part : BodyPart). part.means alone) (settree-core c core ∙ opened_core c core)
     ∙ wordless c (out-Core core)
-    ∙ ap (λ (layer : core_layer). (core_step (core_shown c layer)).means alone) (sym e)
-    ∙ sym (ap (λ (part : BodyPart). part.means alone) (settree-core c other ∙ core-opened c other))
+    ∙ ap (λ (layer : CoreLayer). (core_step (shown_core c layer)).means alone) (sym e)
+    ∙ sym (ap (λ (part : BodyPart). part.means alone) (settree-core c other ∙ opened_core c other))
 same-without c tree plain (plain_first first other steps h) =
     ap (λ (part : BodyPart). part.means alone) (settree-chain c first steps)
     ∙ ap (λ (m : QueryMeant). set_chain alone m (map (set_step_of c) steps)) (same-without c first other h)

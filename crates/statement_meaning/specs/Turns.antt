@@ -1,6 +1,6 @@
 -- What becomes of a statement whose names are looked up: what it answers and what the catalog holds then, or why it is
 -- refused. What a statement does is one word each, which the code's contracts name too.
-use Rattle.std.specs.Prelude.{ℕ, Bool, true, false, cond, not, nat_eq, ◌==◌, List, [], ◌∷◌, ◌++◌, length, filter, Option, Some, None, codes}
+use Rattle.std.specs.Prelude.{ℕ, Bool, false, cond, not, nat_eq, ◌==◌, List, [], ◌∷◌, ◌++◌, length, filter, Option, Some, None, codes}
 use Rattle.std.specs.Fmt.{decimal}
 use Rattle.std.specs.List.{count_by, list_any}
 use Rattle.std.specs.Option.{option_map, option_map_or, option_and_then}
@@ -10,8 +10,7 @@ use Rattle.perm_values.specs.declared.kind.Kind.{Kind}
 use Rattle.bag_algebra.specs.Bags.{Row, Bag, member, once, sorted}
 use Rattle.bag_algebra.specs.Expressions.{value}
 use Rattle.bag_algebra.specs.Meaning.{Database, meaning}
-use Rattle.bag_algebra.specs.Means.{holds_of}
-use Rattle.bag_algebra.specs.Outcome.{Faults, Outcome, Good, Bad, both, mapped, each}
+use Rattle.bag_algebra.specs.Outcome.{Faults, Outcome, Good, Bad, both, each}
 use Rattle.bag_algebra.specs.TableRows.{rows_in}
 use Rattle.bag_algebra.specs.TablesRead.{TableRead, tables_read}
 use Rattle.bag_algebra.specs.declared.expr.Expr.{Expr}
@@ -28,7 +27,7 @@ use Rattle.perm_catalog.specs.declared.entries.Kept.{Kept}
 use Rattle.perm_catalog.specs.declared.entries.Mark.{Mark}
 use Rattle.perm_catalog.specs.declared.entries.TableEntry.{TableEntry}
 use Rattle.perm_catalog.specs.declared.entries.ViewEntry.{ViewEntry}
-use Rattle.delete_impact.specs.vanishing.Doomed.{after_deletion}
+use Rattle.delete_impact.specs.vanishing.Doomed.{after_deletion, doomed_on}
 use Rattle.perm_io.specs.Found.{Found}
 use Rattle.perm_io.specs.Found as found
 use Rattle.name_meaning.specs.Meanings.{broken}
@@ -118,11 +117,6 @@ copy c at name kinds null_field header found.Failed = Refused Failed
 
 -- ---- DELETE: the rows of which the condition is true, or all
 
--- whether the row goes
-abbrev pub goes : Option Expr → Row → Outcome Bool
-goes None row = Good true
-goes (Some condition) row = mapped holds_of (value condition row [] [])
-
 abbrev pub rows_deleted : Contents → List ℕ → List Bool → Turn
 rows_deleted c name doomed =
     Accepted (counting (codes "DELETE ") (count_by (λ flag. flag) doomed)) (with_fewer_rows c name (identity_of c name) doomed)
@@ -130,7 +124,7 @@ rows_deleted c name doomed =
 -- the condition is looked at on every row
 abbrev pub delete : Contents → ℕ → List ℕ → Option Expr → Turn
 delete c at name condition =
-    on_good at (each (goes condition) (rows_at c (identity_of c name))) (λ doomed. drawing c at (rows_deleted c name doomed))
+    on_good at (each (doomed_on condition) (rows_at c (identity_of c name))) (λ doomed. drawing c at (rows_deleted c name doomed))
 
 -- ---- a query: its rows in the order of its keys, then of all columns
 
@@ -150,9 +144,9 @@ select c at answer = on_good at (meaning answer.query (rows_in c.rows) []) (answ
 abbrev pub reads : ℕ → Query → Bool
 reads id query = list_any (λ (read : TableRead). read.id == id) (tables_read query)
 
--- whether each row of the table goes; no row is looked at where the query doesn't read the table
+-- whether each row of the table doomed_on; no row is looked at where the query doesn't read the table
 abbrev pub rows_going : ℕ → Option Expr → Query → Database → Outcome (List Bool)
-rows_going id condition query db = cond (reads id query) (each (goes condition) (db id)) (Good [])
+rows_going id condition query db = cond (reads id query) (each (doomed_on condition) (db id)) (Good [])
 
 -- the rows of the query; both the query and the condition are looked at
 abbrev pub rows_before : ℕ → Option Expr → Query → Database → Outcome Bag

@@ -21,13 +21,14 @@ ghost use Rattle.perm_catalog.specs.declared.entries.TableEntry.{TableEntry};
 ghost use Rattle.perm_values.specs.Marked.{unmarked};
 ghost use Rattle.sql_tree.specs.Regular.{RegularStatement};
 ghost use Rattle.sql_tree.specs.declared.statement.Statement.{Statement};
+ghost use Rattle.delete_impact.specs.vanishing.Doomed.{doomed_on};
 ghost use Rattle.statement_meaning.specs.laws.Freshened.{IsRead, IsStill, IsUnread, MeetsStored, StoresFresh, StoresNothing, filled, written};
 ghost use Rattle.statement_meaning.specs.laws.Kept.{rows_left};
 ghost use Rattle.statement_meaning.specs.laws.Leaving.{Leaves};
 ghost use Rattle.statement_meaning.specs.laws.Sounder.{AddsSoundly, KeepsSound};
 ghost use Rattle.statement_meaning.specs.Asking.{asks};
 ghost use Rattle.statement_meaning.specs.Ready.{IsReady};
-ghost use Rattle.statement_meaning.specs.Turns.{Accepted, goes, show_fresh};
+ghost use Rattle.statement_meaning.specs.Turns.{Accepted, show_fresh};
 
 use stored_provenance::a_new_mark_is_sound;
 
@@ -51,7 +52,7 @@ pub fn whole_statements_are_ready()
 /// isn't true, as often and in the order in which they stood.
 pub fn delete_leaves_the_other_rows()
     ensures { (condition : Option Expr) (rows : Bag) (doomed : List Bool)
-        → each (goes condition) rows ≡ Good doomed → unmarked doomed rows ≡ rows_left condition rows }
+        → each (doomed_on condition) rows ≡ Good doomed → unmarked doomed rows ≡ rows_left condition rows }
 {}
 
 /// A statement that can be carried out, and adds what is sound, keeps a sound catalog sound, whatever became of its file.

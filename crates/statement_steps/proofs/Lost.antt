@@ -1,5 +1,5 @@
 -- The turn of an IMPACT is that of a query that answers which rows vanish.
-use Rattle.std.proofs.Common.{◌≡◌, ◌≢◌, ◌↔◌, ◌≤◌, ◌<◌, ◌∙◌, ℕ, Bool, true, false, cond, List, [], Option, Some, None, Result, Ok, Err, IfOk, refl, sym, ap, subst, arith}
+use Rattle.std.proofs.Common.{◌≡◌, ◌≢◌, ◌↔◌, ◌≤◌, ◌<◌, ◌∙◌, ℕ, Bool, true, false, cond, List, [], Option, Some, None, Result, Ok, Err, IfOk, refl, ap, subst, arith}
 use Rattle.perm_values.specs.Rows.{printed_cmp}
 use Rattle.perm_values.specs.declared.key.Key.{Key}
 use Rattle.bag_algebra.proofs.SortedBags.{printed_unique}
@@ -14,17 +14,17 @@ use Rattle.bag_algebra.specs.declared.expr.Expr.{Expr}
 use Rattle.bag_algebra.specs.declared.query.Answer.{Answer}
 use Rattle.bag_algebra.specs.declared.query.Query.{Query}
 use Rattle.csv_tables.specs.AnswerText.{answer_bytes}
-use Rattle.delete_impact.specs.Impact.{IsImpact, looked_at}
+use Rattle.delete_impact.specs.Impact.{IsImpact}
 use Rattle.delete_impact.proofs.Unread.{nothing-vanishes}
 use Rattle.delete_impact.specs.vanishing.Doomed.{doomed_on}
 use Rattle.delete_impact.specs.vanishing.Vanishing.{Vanishes}
 use Rattle.perm_catalog.specs.Contents.{Contents}
 use Rattle.query_laws.proofs.Once.{holds_once-same}
 use Rattle.query_laws.specs.Holding.{HoldsOnce}
-use Rattle.statement_meaning.proofs.Lost.{lost-vanish, reads-not, reads-some, same-goes}
+use Rattle.statement_meaning.proofs.Lost.{lost-vanish, reads-not, reads-some}
 use Rattle.statement_meaning.specs.Answers.{IsText}
 use Rattle.statement_meaning.specs.Ready.{CanLose, CanRun}
-use Rattle.statement_meaning.specs.Turns.{Turn, Accepted, answered, goes, identity_of, impact, on_good, reads, rows_before, rows_going, rows_lost, select}
+use Rattle.statement_meaning.specs.Turns.{Turn, Accepted, answered, identity_of, impact, on_good, reads, rows_before, rows_going, rows_lost, select}
 use Rattle.statement_meaning.specs.declared.refusal.StepRefusal.{StepRefusal}
 use Rattle.statement_steps.specs.Runs.{IsAnswered, IsLost, IsLostBy}
 use Rattle.statement_steps.specs.declared.ran.Ran.{Ran}
@@ -59,9 +59,6 @@ module _ (c : Contents) (at : ℕ) (name : List ℕ) (condition : Option Expr) (
 
   -- ---- where the query reads the table
 
-  looked-is : looked_at q id condition db ≡ both (λ rows doomed. rows) (meaning q db []) (each (goes condition) (db id))
-  looked-is = ap (λ test. both (λ rows doomed. rows) (meaning q db []) (each test (db id))) (sym (same-goes condition))
-
   both-first : (o : Outcome Bag) (p : Outcome (List Bool)) (us : Bag) → both (λ rows doomed. rows) o p ≡ Good us → o ≡ Good us
   both-first (Good rows) (Good doomed) us e = e
   both-first (Good rows) (Bad g) us e = absurd (cc e)
@@ -69,13 +66,13 @@ module _ (c : Contents) (at : ℕ) (name : List ℕ) (condition : Option Expr) (
   both-first (Bad f) (Bad g) us e = absurd (cc e)
 
   read-turn : (EachTable (λ other kinds. other ≢ id) q → ⊥) → (w : Outcome Bag)
-      → both (λ rows doomed. rows) (meaning q db []) (each (goes condition) (db id)) ≡ w → on_good at (meaning lost.query db []) (answered c lost) ≡ on_good at w next
+      → both (λ rows doomed. rows) (meaning q db []) (each (doomed_on condition) (db id)) ≡ w → on_good at (meaning lost.query db []) (answered c lost) ≡ on_good at w next
   read-turn read (Good us) e =
-      let found = by.query.vanishing db us fits read (looked-is ∙ e) in
+      let found = by.query.vanishing db us fits read e in
       ap (λ (o : Outcome Bag). on_good at o (answered c lost)) found.1
       ∙ same-answered found.0 (rows_lost id condition q db us) found.2
-      (lost-vanish q id condition db us (both-first (meaning q db []) (each (goes condition) (db id)) us e))
-  read-turn read (Bad faults) e = ap (λ (o : Outcome Bag). on_good at o (answered c lost)) (by.query.faults db faults fits read (looked-is ∙ e))
+      (lost-vanish q id condition db us (both-first (meaning q db []) (each (doomed_on condition) (db id)) us e))
+  read-turn read (Bad faults) e = ap (λ (o : Outcome Bag). on_good at o (answered c lost)) (by.query.faults db faults fits read e)
 
   -- ---- where it doesn't
 
@@ -95,7 +92,7 @@ module _ (c : Contents) (at : ℕ) (name : List ℕ) (condition : Option Expr) (
   -- ---- both
 
   by-reads : (b : Bool) → reads id q ≡ b
-      → select c at lost ≡ on_good at (both (λ rows doomed. rows) (meaning q db []) (cond b (each (goes condition) (db id)) (Good []))) next
+      → select c at lost ≡ on_good at (both (λ rows doomed. rows) (meaning q db []) (cond b (each (doomed_on condition) (db id)) (Good []))) next
   by-reads true e = read-turn (reads-some id q e) _ refl
   by-reads false e = unread-turn (reads-not id q e) (meaning q db []) refl
 

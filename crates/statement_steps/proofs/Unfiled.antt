@@ -14,13 +14,14 @@ use Rattle.perm_catalog.specs.Contents.{Contents}
 use Rattle.perm_io.specs.Counts.{CountsFault}
 use Rattle.perm_io.specs.Found.{Found}
 use Rattle.perm_io.specs.Told.{FilesTold}
+use Rattle.delete_impact.specs.vanishing.Doomed.{doomed_on}
 use Rattle.name_meaning.specs.Meanings.{broken}
 use Rattle.name_meaning.specs.declared.answer.Resolved.{Resolved}
 use Rattle.name_meaning.specs.declared.answer.Resolved.TheVariants as r
 use Rattle.statement_meaning.specs.Answers.{Files, Names, IsTurn, IsText, IsBacked, RestsOn, TakesTurn, can_be, failed, has_failed, over}
 use Rattle.statement_meaning.specs.Asking.{Asked, Settled, Begins, Explained, asks}
 use Rattle.statement_meaning.specs.Carrying.{IsCarriedOut}
-use Rattle.statement_meaning.specs.Turns.{Turn, Accepted, Refused, Broken, Meets, Missing, TooLarge, Unfit, Failed, on_good, drawing, counting, identity_of, add_rows, answered, goes, row_value, rows_before, rows_deleted, rows_lost, store_answer, with_added, with_answer}
+use Rattle.statement_meaning.specs.Turns.{Turn, Accepted, Refused, Broken, Meets, Missing, TooLarge, Unfit, Failed, on_good, drawing, counting, identity_of, add_rows, answered, row_value, rows_before, rows_deleted, rows_lost, store_answer, with_added, with_answer}
 use Rattle.statement_meaning.specs.declared.refusal.StepRefusal.{StepRefusal}
 use Rattle.statement_meaning.specs.declared.refusal.StepRefusal.TheVariants as refusal
 use Rattle.statement_steps.specs.Settling.{IsSettled}
@@ -62,7 +63,7 @@ asks-unfiled c at (r.Copy name kinds file null_field header) = tt
 asks-unfiled c at (r.Insert name rows) = waited at (each row_value rows) (add_rows (codes "INSERT ") c at name)
     (λ made. drawn c at (counting (codes "INSERT ") (length made)) (with_added c name made))
 asks-unfiled c at (r.Delete name condition) =
-    waited at (each (goes condition) (rows_at c (identity_of c name))) (λ doomed. drawing c at (rows_deleted c name doomed))
+    waited at (each (doomed_on condition) (rows_at c (identity_of c name))) (λ doomed. drawing c at (rows_deleted c name doomed))
     (λ doomed. drawn c at (counting (codes "DELETE ") (count_by (λ flag. flag) doomed)) (with_fewer_rows c name (identity_of c name) doomed))
 asks-unfiled c at (r.DropTable name) = refl
 asks-unfiled c at (r.DropView name) = refl

@@ -18,3 +18,4 @@ pub use dropping::{drop_table, drop_view};
 pub use inserting::insert;
 pub use loading::RowFile;
 pub use storing::{NewTable, store_answer};
+pub(crate) use text::text_of;

@@ -2,6 +2,7 @@ ghost use Rattle.std.specs.Prelude.{◌≡◌, IfOk};
 ghost use Rattle.statement_meaning.specs.Turns.{freshness_text, stored_at};
 ghost use Rattle.statement_steps.specs.Fresh.{state_text};
 
+use crate::changes::text_of;
 use perm_catalog::Catalog;
 use perm_values::{Bytes, Chars, NoMemory};
 use std::alloc::Global;
@@ -30,13 +31,4 @@ fn state_text(alloc: Global, state: &FreshState) -> Result<Bytes, NoMemory>
             Ok(text)
         }
     }
-}
-
-/// The bytes in memory of their own.
-fn text_of(alloc: Global, bytes: &[u8]) -> Result<Bytes, NoMemory>
-    ensures { IfOk result (λ text. text ≡ bytes.now) }
-{
-    let mut text = Bytes::new(alloc);
-    text.add(bytes)?;
-    Ok(text)
 }

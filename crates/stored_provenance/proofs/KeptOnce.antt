@@ -1,10 +1,11 @@
 -- Tables kept one after another, where they aren't kept yet, are kept once each, where they are read first.
 use mathlib.Core.Bool.{true≢false}
 use Rattle.std.proofs.Common.{◌≡◌, ◌⊎◌, inl, inr, ℕ, Bool, true, false, not, ◌||◌, cond, List, [], ◌∷◌, ◌++◌, filter, Option, Some, None, append-nil, append_assoc, refl, sym, ap, ◌∙◌, arith, nat_eq}
+use Rattle.std.proofs.lemmas.Bool.{not-true, not-false, eqb-true}
 use Rattle.std.proofs.lemmas.Bool.Decides.{nat_tests}
 use Rattle.std.specs.List.{flat_map, list_any}
 use Rattle.std.specs.Option.{option_map, option_map_or}
-use Rattle.bag_algebra.proofs.Truths.{or_associates, or_false}
+use Rattle.bag_algebra.proofs.Truths.{or_associates, or_false, or_true}
 use Rattle.bag_algebra.specs.TablesRead.{TableRead, tables_read}
 use Rattle.bag_algebra.specs.declared.query.Query.{Query}
 use Rattle.perm_catalog.specs.Contents.{Contents}
@@ -13,7 +14,6 @@ use Rattle.perm_catalog.specs.Stored.{each_once, kept_read, kept_of}
 use Rattle.perm_catalog.specs.declared.entries.Kept.{Kept}
 use Rattle.perm_catalog.specs.declared.entries.TableEntry.{TableEntry}
 use Rattle.stored_provenance.proofs.Found.{found-passes}
-use Rattle.stored_provenance.proofs.Marks.{nat_same}
 use Rattle.stored_provenance.specs.Reads.{has_id, kept_now, listed, with_read, with_reads}
 
 turned : (a b : ℕ) → nat_eq a b ≡ nat_eq b a
@@ -21,7 +21,7 @@ turned a b = grind (arith, nat_tests)
 
 -- the table that has an identity has it
 pub entry-id : (c : Contents) (id : ℕ) (e : List ℕ × TableEntry) → entry_of_id c id ≡ Some e → e.1.id ≡ id
-entry-id c id e h = nat_same e.1.id id (found-passes (λ (t : TableEntry). nat_eq t.id id) c.tables e h)
+entry-id c id e h = eqb-true e.1.id id (found-passes (λ (t : TableEntry). nat_eq t.id id) c.tables e h)
 
 -- ---- what adds nothing may be passed over
 
@@ -55,18 +55,6 @@ has_id-append : (id : ℕ) (xs ys : List Kept) → has_id id (xs ++ ys) ≡ (has
 has_id-append id [] ys = refl
 has_id-append id (x ∷ xs) ys = ap (λ b. nat_eq x.id id || b) (has_id-append id xs ys) ∙ sym (or_associates (nat_eq x.id id) (has_id id xs) (has_id id ys))
 
-or-true : (a : Bool) → (a || true) ≡ true
-or-true true = refl
-or-true false = refl
-
-not-false : (b : Bool) → not b ≡ false → b ≡ true
-not-false true h = refl
-not-false false h = absurd (true≢false h)
-
-not-true : (b : Bool) → not b ≡ true → b ≡ false
-not-true true h = absurd (true≢false (sym h))
-not-true false h = refl
-
 module _ (c : Contents) where
   read-now-by : (read : TableRead) (o : Option (List ℕ × TableEntry)) → entry_of_id c read.id ≡ o →
       option_map_or {U = List Kept} (λ (e : List ℕ × TableEntry). record { table = e.0; id = e.1.id; version = e.1.version } ∷ []) o []
@@ -85,7 +73,7 @@ module _ (c : Contents) where
     unkept k r = not (has_id r.id k)
 
     same-id : (r : TableRead) → other r ≡ false → r.id ≡ read.id
-    same-id r h = nat_same r.id read.id (not-false (nat_eq r.id read.id) h)
+    same-id r h = eqb-true r.id read.id (not-false (nat_eq r.id read.id) h)
 
     new-has : (r : TableRead) (o : Option (List ℕ × TableEntry)) → other r ≡ true →
         has_id r.id (listed (option_map (λ (e : List ℕ × TableEntry). record { table = e.0; id = read.id; version = e.1.version }) o)) ≡ false
@@ -104,7 +92,7 @@ module _ (c : Contents) where
     gone-by r (Some e) is same =
         inl (ap not (has_id-append r.id kept (record { table = e.0; id = read.id; version = e.1.version } ∷ [])
         ∙ ap (λ b. has_id r.id kept || (b || false)) (turned read.id r.id ∙ not-false (nat_eq r.id read.id) same)
-        ∙ or-true (has_id r.id kept)))
+        ∙ or_true (has_id r.id kept)))
 
     gone-new : (r : TableRead) → other r ≡ false → (unkept (kept ++ listed (kept_now c read.id)) r ≡ false) ⊎ (kept_read c r ≡ [])
     gone-new r same = as_read (gone-by r (entry_of_id c read.id) refl same) where

@@ -2,8 +2,9 @@
 use mathlib.Core.Bool.{true≢false}
 use Rattle.std.proofs.Common.{◌≡◌, ℕ, ◌≤◌, ◌<◌, Bool, true, false, not, cond, List, [], ◌∷◌, Option, Some, None, refl, sym, ap, subst, ◌∙◌, arith, nat_eq}
 use Rattle.std.specs.Prelude.{All, Contains, IfSome, slice_index_or}
-use Rattle.std.proofs.lemmas.Bool.Decides.{nat_tests}
 use Rattle.std.proofs.lemmas.List.Elements.{All-nil, All-cons, All-head, All-tail}
+use Rattle.std.proofs.lemmas.Option.{same_Some}
+use Rattle.std.proofs.lemmas.Bool.{eqb-true, eq-eqb}
 use Rattle.std.specs.Cmp.Lexicographic.{pointwise}
 use Rattle.std.specs.List.{find, IsDistinct}
 use Rattle.std.specs.Map.{keys_of}
@@ -45,15 +46,6 @@ pub record IsHere (c : Contents) (id version : ℕ) : Type 0 where
   pub held : HasId c id
   pub version_is : held.table.version ≡ version
 
-pub nat_same : (a b : ℕ) → nat_eq a b ≡ true → a ≡ b
-nat_same a b h = grind (arith, nat_tests)
-
-pub nat_equal : (a b : ℕ) → a ≡ b → nat_eq a b ≡ true
-nat_equal a b h = grind (arith, nat_tests)
-
-pub some_same : {X : Type 0} (x y : X) → Some x ≡ Some y → x ≡ y
-some_same x y e = cc
-
 -- ---- the table that an identity finds
 
 module _ (c : Contents) (apart : AreApart c) (id : ℕ) where
@@ -65,16 +57,16 @@ module _ (c : Contents) (apart : AreApart c) (id : ℕ) where
     name = e.0;
     table = e.1;
     is = found-named has c.tables e apart.names h;
-    id_is = nat_same e.1.id id (found-passes has c.tables e h);
+    id_is = eqb-true e.1.id id (found-passes has c.tables e h);
   }
 
   pub has-entry : (held : HasId c id) → entry_of_id c id ≡ Some (held.name, held.table)
   unfolding entry-has
   has-entry held =
-      let there = named-found has c.tables held.name held.table held.is (nat_equal held.table.id id held.id_is) in
+      let there = named-found has c.tables held.name held.table held.is (eq-eqb held.table.id id held.id_is) in
       let other = entry-has there.entry there.found in
       let name : there.entry.0 ≡ held.name = apart.identities there.entry.0 held.name there.entry.1 held.table other.is held.is (other.id_is ∙ sym held.id_is) in
-      let table : there.entry.1 ≡ held.table = some_same there.entry.1 held.table (sym other.is ∙ ap (table_named c) name ∙ held.is) in
+      let table : there.entry.1 ≡ held.table = same_Some there.entry.1 held.table (sym other.is ∙ ap (table_named c) name ∙ held.is) in
       there.found ∙ (λ i. Some (name i, table i))
 
 module _ (c : Contents) (apart : AreApart c) (kept : Kept) where
@@ -82,7 +74,7 @@ module _ (c : Contents) (apart : AreApart c) (kept : Kept) where
       option_map_or (λ (e : List ℕ × TableEntry). nat_eq e.1.version kept.version) o false ≡ true → IsHere c kept.id kept.version
   unfolding entry-has
   unchanged-by None is h = absurd (true≢false (sym h))
-  unchanged-by (Some e) is h = record { held = entry-has c apart kept.id e is; version_is = nat_same e.1.version kept.version h }
+  unchanged-by (Some e) is h = record { held = entry-has c apart kept.id e is; version_is = eqb-true e.1.version kept.version h }
 
   pub unchanged-here : is_unchanged c kept ≡ true → IsHere c kept.id kept.version
   unchanged-here h = unchanged-by (entry_of_id c kept.id) refl h
@@ -90,7 +82,7 @@ module _ (c : Contents) (apart : AreApart c) (kept : Kept) where
   pub here-unchanged : IsHere c kept.id kept.version → is_unchanged c kept ≡ true
   here-unchanged here =
       ap (λ o. option_map_or (λ (e : List ℕ × TableEntry). nat_eq e.1.version kept.version) o false) (has-entry c apart kept.id here.held)
-      ∙ nat_equal here.held.table.version kept.version here.version_is
+      ∙ eq-eqb here.held.table.version kept.version here.version_is
 
 -- ---- all kept tables are unchanged
 

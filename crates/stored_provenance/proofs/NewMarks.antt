@@ -1,9 +1,12 @@
 -- What a new table that stores provenance remembers is sound, and it is fresh.
 use Rattle.std.proofs.Common.{◌≡◌, ◌≢◌, ℕ, zero, suc, ◌<◌, Bool, true, false, not, cond, List, [], ◌∷◌, ◌++◌, length, filter, Option, Some, None, refl, sym, ap, subst, ◌∙◌, arith, nat_eq}
 use Rattle.std.proofs.lemmas.List.Elements.{All-nil, All-cons, All-append, Contains-append_left, Contains-append_right}
+use Rattle.std.proofs.lemmas.Option.{same_Some}
+use Rattle.std.proofs.lemmas.Bool.{eqb-true, eq-eqb}
 use Rattle.std.specs.Prelude.{All, Contains, slice_index_or}
 use Rattle.std.specs.List.{flat_map}
 use Rattle.std.specs.Option.{option_map_or}
+use Rattle.perm_values.specs.Rows.{PlacesWithin}
 use Rattle.perm_values.specs.declared.kind.Kind.{Kind}
 use Rattle.bag_algebra.proofs.TablesRead.{each_table-both, each_table-kept, reads_among-itself}
 use Rattle.bag_algebra.specs.Bags.{Bag, Row}
@@ -13,7 +16,7 @@ use Rattle.bag_algebra.specs.Outcome.{Good}
 use Rattle.bag_algebra.specs.Rewriting.{SameRows}
 use Rattle.bag_algebra.specs.TableRows.{rows_in}
 use Rattle.bag_algebra.specs.TablesRead.{TableRead, tables_read, EachTable}
-use Rattle.bag_algebra.specs.WellFormed.{WellFormed, PlacesIn}
+use Rattle.bag_algebra.specs.WellFormed.{WellFormed}
 use Rattle.bag_algebra.specs.built.Patterns.{ProvOf}
 use Rattle.bag_algebra.specs.declared.query.Query.{Query}
 use Rattle.perm_catalog.specs.Changes.{table_named}
@@ -26,7 +29,7 @@ use Rattle.perm_catalog.specs.declared.column.Column.{Column}
 use Rattle.perm_catalog.specs.declared.entries.Kept.{Kept}
 use Rattle.perm_catalog.specs.declared.entries.TableEntry.{TableEntry}
 use Rattle.stored_provenance.proofs.Found.{found-named}
-use Rattle.stored_provenance.proofs.Marks.{nat_same, nat_equal, some_same, has-entry, all-pass}
+use Rattle.stored_provenance.proofs.Marks.{has-entry, all-pass}
 use Rattle.stored_provenance.proofs.Soundness.{are-apart}
 use Rattle.query_laws.specs.replaced.OverQueries.{ReadsAs}
 use Rattle.stored_provenance.specs.Held.{IsHeldTable}
@@ -75,7 +78,7 @@ in-once : (reads : List TableRead) (read : TableRead) → Contains reads read �
 in-once [] read there = absurd (let low = there.1 in omega (arith, low))
 in-once (first ∷ reads) read there = by (in-once reads read) there.0 there.1 there.2 where
   onward : (once : IsOnce (each_once reads) read.id) (b : Bool) → nat_eq once.read.id first.id ≡ b → IsOnce (first ∷ filter (apart_from first) (each_once reads)) read.id
-  onward once true is = record { read = first; there = (0, omega arith, refl); same = sym (nat_same once.read.id first.id is) ∙ once.same }
+  onward once true is = record { read = first; there = (0, omega arith, refl); same = sym (eqb-true once.read.id first.id is) ∙ once.same }
   onward once false is = record {
     read = once.read;
     there = Contains-append_right (first ∷ []) (filter (apart_from first) (each_once reads)) once.read (in-filter (apart_from first) (each_once reads) once.read (ap not is) once.there);
@@ -107,14 +110,14 @@ module _ (c : Contents) (sound : IsSound c) where
   unchanged-by read (Some e) is =
       All-cons (λ kept. is_unchanged c kept ≡ true) (as_kept e) []
       (ap (λ o. option_map_or (λ (f : List ℕ × TableEntry). nat_eq f.1.version e.1.version) o false) (ap (entry_of_id c) (entry-id c read.id e is) ∙ is)
-      ∙ nat_equal e.1.version e.1.version refl)
+      ∙ eq-eqb e.1.version e.1.version refl)
       (All-nil (λ kept. is_unchanged c kept ≡ true))
 
   same-table : (id : ℕ) (kinds : List Kind) (held : IsHeldTable c id kinds) (name : List ℕ) (table : TableEntry) → table_named c name ≡ Some table →
       table.id ≡ id → held.table ≡ table
   same-table id kinds held name table named same =
       let name_is : held.name ≡ name = sound.identities held.name name held.table table held.named named (held.same ∙ sym same) in
-      some_same held.table table (sym held.named ∙ ap (table_named c) name_is ∙ named)
+      same_Some held.table table (sym held.named ∙ ap (table_named c) name_is ∙ named)
 
   kept-table : (reads : List TableRead) (id : ℕ) (kinds : List Kind) → Contains reads (record { id = id; kinds = kinds }) → IsHeldTable c id kinds →
       IsKeptTable c (flat_map (kept_read c) (each_once reads)) id kinds
@@ -148,7 +151,7 @@ module _ (c : Contents) (sound : IsSound c) where
       (all-flat (λ kept. is_unchanged c kept ≡ true) (kept_read c) (each_once (tables_read query)) (λ read. unchanged-by read (entry_of_id c read.id) refl))
 
   pub new-sound : (columns : List Column) (rows : Bag) (input : Query) (places : List ℕ) → WellFormed [] (ProvOf input) →
-      EachTable (IsHeldTable c) (ProvOf input) → kinds_of (ProvOf input) ≡ column_kinds columns → PlacesIn (length columns) places →
+      EachTable (IsHeldTable c) (ProvOf input) → kinds_of (ProvOf input) ≡ column_kinds columns → PlacesWithin (length columns) places →
       SameRows (meaning (ProvOf input) (rows_in c.rows) []) (Good rows) → IsSoundMark c columns rows (mark_of c (ProvOf input) places)
   new-sound columns rows input places closed held kinds within same = record {
     input = input;

@@ -1,6 +1,7 @@
 -- A sound catalog stays sound where a table is created, gets other rows, or is dropped.
 use mathlib.Core.Bool.{true≢false}
 use Rattle.std.proofs.Common.{◌≡◌, ◌≢◌, ◌⊎◌, inl, inr, ℕ, ◌<◌, Bool, true, false, cond, List, [], ◌++◌, Option, Some, None, refl, sym, ap, subst, ◌∙◌, arith, nat_eq}
+use Rattle.std.proofs.lemmas.Option.{same_Some}
 use Rattle.std.specs.Prelude.{IfSome}
 use Rattle.std.specs.Cmp.Lexicographic.{pointwise}
 use Rattle.std.specs.FinMap as map
@@ -9,6 +10,7 @@ use Rattle.std.specs.List.{IsDistinct}
 use Rattle.std.specs.Option.{option_map_or, unwrap_or}
 use Rattle.std.specs.Ordering.{nat_cmp}
 use Rattle.perm_values.specs.Marked.{unmarked}
+use Rattle.perm_values.proofs.Steps.{none_is_some}
 use Rattle.bag_algebra.specs.Bags.{Bag}
 use Rattle.bag_algebra.specs.Fits.{bag_fits}
 use Rattle.bag_algebra.specs.TableRows.{rows_in}
@@ -24,8 +26,8 @@ use Rattle.perm_catalog.specs.declared.entries.TableEntry.{TableEntry}
 use Rattle.perm_catalog.specs.declared.entries.ViewEntry.{ViewEntry}
 use Rattle.stored_provenance.proofs.HeldRows.{get-put, get-put_apart, get-removed_apart, fits-append, fits-unmarked}
 use Rattle.perm_catalog.proofs.Named.{AtName, Elsewhere, found, found-apart, found-here, same-or-not, named-changed, named-last, named-without, keys-changed, distinct-last, distinct-without}
-use Rattle.stored_provenance.proofs.Marks.{some_same, AreApart, IsHere, Was, Goes, stored-goes}
-use Rattle.stored_provenance.proofs.Soundness.{none_is_some, are-apart, kept-table, kept-view, Kept, stays, free-table, free-view, unused}
+use Rattle.stored_provenance.proofs.Marks.{AreApart, IsHere, Was, Goes, stored-goes}
+use Rattle.stored_provenance.proofs.Soundness.{are-apart, kept-table, kept-view, Kept, stays, free-table, free-view, unused}
 
 -- ---- a new table
 
@@ -60,8 +62,8 @@ module _ (c : Contents) (name : List ℕ) (columns : List Column) (rows : Bag) (
 
   ids-differ : (n m : List ℕ) (t u : TableEntry) → Place n t → Place m u → t.id ≡ u.id → n ≡ m
   ids-differ n m t u (inl p) (inl q) e = sym p.here ∙ q.here
-  ids-differ n m t u (inl p) (inr q) e = absurd (apart m t u (some_same made t p.is) q.was e)
-  ids-differ n m t u (inr p) (inl q) e = absurd (apart n u t (some_same made u q.is) p.was (sym e))
+  ids-differ n m t u (inl p) (inr q) e = absurd (apart m t u (same_Some made t p.is) q.was e)
+  ids-differ n m t u (inr p) (inl q) e = absurd (apart n u t (same_Some made u q.is) p.was (sym e))
   ids-differ n m t u (inr p) (inr q) e = s.identities n m t u p.was q.was e
 
   after-apart : AreApart after
@@ -75,7 +77,7 @@ module _ (c : Contents) (name : List ℕ) (columns : List Column) (rows : Bag) (
 
   was-here : (id : ℕ) → id < c.next → (name' : List ℕ) (t : TableEntry) → Place name' t → t.id ≡ id → table_named c name' ≡ Some t
   was-here id low q t (inl here) e =
-      let new_id : c.next ≡ t.id = ap (λ (x : TableEntry). x.id) (some_same made t here.is) in absurd (omega (arith, low, new_id, e))
+      let new_id : c.next ≡ t.id = ap (λ (x : TableEntry). x.id) (same_Some made t here.is) in absurd (omega (arith, low, new_id, e))
   was-here id low q t (inr else) e = else.was
 
   goes-on : Goes c after
@@ -107,7 +109,7 @@ module _ (c : Contents) (name : List ℕ) (columns : List Column) (rows : Bag) (
   }
 
   table-sound : (q : List ℕ) (t : TableEntry) → Place q t → IsSoundTable after t
-  table-sound q t (inl here) = subst (IsSoundTable after) (some_same made t here.is) made-sound
+  table-sound q t (inl here) = subst (IsSoundTable after) (same_Some made t here.is) made-sound
   table-sound q t (inr else) =
       let below = old-below q t else.was in
       kept-table c after t (are-apart c s) after-apart goes-on (get-put_apart c.rows c.next rows t.id (λ e. absurd (omega (arith, e, below))))
@@ -173,9 +175,9 @@ module _ (c : Contents) (name : List ℕ) (table : TableEntry) (rows : FinMap na
   same-ids : (n m : List ℕ) (t u : TableEntry) → Spot n t → Spot m u → t.id ≡ u.id → n ≡ m
   same-ids n m t u (inl p) (inl q) e = sym p.here ∙ q.here
   same-ids n m t u (inl p) (inr q) e =
-      sym p.here ∙ s.identities name m table u is q.was (ap (λ (x : TableEntry). x.id) (some_same newer t p.is) ∙ e)
+      sym p.here ∙ s.identities name m table u is q.was (ap (λ (x : TableEntry). x.id) (same_Some newer t p.is) ∙ e)
   same-ids n m t u (inr p) (inl q) e =
-      s.identities n name t table p.was is (e ∙ sym (ap (λ (x : TableEntry). x.id) (some_same newer u q.is))) ∙ q.here
+      s.identities n name t table p.was is (e ∙ sym (ap (λ (x : TableEntry). x.id) (same_Some newer u q.is))) ∙ q.here
   same-ids n m t u (inr p) (inr q) e = s.identities n m t u p.was q.was e
 
   later-apart : AreApart later
@@ -191,7 +193,7 @@ module _ (c : Contents) (name : List ℕ) (table : TableEntry) (rows : FinMap na
   still-here : (id version : ℕ) → version < c.next → (h : IsHere later id version) → Spot h.held.name h.held.table →
       IsHere c id version × (rows_in later.rows id ≡ rows_in c.rows id)
   still-here id version low h (inl here) =
-      let new : c.next ≡ h.held.table.version = ap (λ (x : TableEntry). x.version) (some_same newer h.held.table here.is) in
+      let new : c.next ≡ h.held.table.version = ap (λ (x : TableEntry). x.version) (same_Some newer h.held.table here.is) in
       let e = h.version_is in
       absurd (omega (arith, low, new, e))
   still-here id version low h (inr else) = (
@@ -201,7 +203,7 @@ module _ (c : Contents) (name : List ℕ) (table : TableEntry) (rows : FinMap na
 
   was-there : (q : List ℕ) (t : TableEntry) → Spot q t → Was c t
   was-there q t (inl here) =
-      let same = some_same newer t here.is in
+      let same = same_Some newer t here.is in
       record {
         held = record { name = name; table = table; is = is; id_is = ap (λ (x : TableEntry). x.id) same };
         kinds = ap (λ (x : TableEntry). column_kinds x.columns) same;
@@ -216,7 +218,7 @@ module _ (c : Contents) (name : List ℕ) (table : TableEntry) (rows : FinMap na
   }
 
   spot-sound : (q : List ℕ) (t : TableEntry) → Spot q t → IsSoundTable later t
-  spot-sound q t (inl here) = subst (IsSoundTable later) (some_same newer t here.is) newer-sound
+  spot-sound q t (inl here) = subst (IsSoundTable later) (same_Some newer t here.is) newer-sound
   spot-sound q t (inr else) =
       kept-table c later t (are-apart c s) later-apart goes-later
       (ap (λ (m : FinMap nat_cmp Bag). map.get m t.id) put ∙ get-put_apart c.rows table.id bag t.id (other-id q t else.apart else.was))
@@ -228,7 +230,7 @@ module _ (c : Contents) (name : List ℕ) (table : TableEntry) (rows : FinMap na
 
   still : (q : List ℕ) (t : TableEntry) → table_named c q ≡ Some t → (name ≡ q) ⊎ (name ≢ q) → Kept later q t
   still q t h (inl here) =
-      let old : table ≡ t = some_same table t (sym is ∙ ap (table_named c) here ∙ h) in
+      let old : table ≡ t = same_Some table t (sym is ∙ ap (table_named c) here ∙ h) in
       record {
         now = newer;
         is = found-here (Some newer) (table_named c q) (table_named later q) name q (turn q) here;

@@ -1,7 +1,9 @@
 -- A sound catalog stays sound where a view is added or dropped.
 use Rattle.std.proofs.Common.{◌≡◌, ◌⊎◌, inl, inr, ℕ, Bool, cond, true, false, List, Option, Some, None, sym, ap, subst, ◌∙◌, arith, nat_eq, refl}
+use Rattle.std.proofs.lemmas.Option.{same_Some}
 use Rattle.std.specs.FinMap as map
 use Rattle.std.specs.Cmp.Lexicographic.{pointwise}
+use Rattle.perm_values.proofs.Steps.{none_is_some}
 use Rattle.perm_catalog.specs.Changes.{table_named, view_named, is_free, with_view, without_view}
 use Rattle.perm_catalog.specs.Contents.{Contents}
 use Rattle.perm_catalog.specs.Sound.{IsSound, IsSoundTable, IsSoundView}
@@ -9,8 +11,8 @@ use Rattle.perm_catalog.specs.declared.entries.TableEntry.{TableEntry}
 use Rattle.perm_catalog.specs.declared.entries.ViewEntry.{ViewEntry}
 use Rattle.perm_catalog.proofs.Named.{AtName, Elsewhere, found, found-apart, named-last, named-without, distinct-last, distinct-without}
 use Rattle.bag_algebra.specs.TableRows.{rows_in}
-use Rattle.stored_provenance.proofs.Marks.{some_same, AreApart, Goes}
-use Rattle.stored_provenance.proofs.Soundness.{none_is_some, are-apart, kept-table, kept-view, stays, free-table, free-view}
+use Rattle.stored_provenance.proofs.Marks.{AreApart, Goes}
+use Rattle.stored_provenance.proofs.Soundness.{are-apart, kept-table, kept-view, stays, free-table, free-view}
 
 -- a table and a view of a catalog whose views alone change
 same-goes : (c d : Contents) → d.next ≡ c.next → d.rows ≡ c.rows → ((q : List ℕ) → table_named d q ≡ table_named c q) → Goes c d
@@ -54,7 +56,7 @@ module _ (c : Contents) (name : List ℕ) (view : ViewEntry) (s : IsSound c) (fr
   place q v h = found (Some view) (view_named c q) (view_named more q) name q v (change q) h
 
   view-sound : (q : List ℕ) (v : ViewEntry) → Place q v → IsSoundView more v
-  view-sound q v (inl here) = subst (IsSoundView more) (some_same view v here.is) (same-view c more view (λ n. refl) new)
+  view-sound q v (inl here) = subst (IsSoundView more) (same_Some view v here.is) (same-view c more view (λ n. refl) new)
   view-sound q v (inr else) = same-view c more v (λ n. refl) (s.views q v else.was)
 
   no-table : table_named c name ≡ None

@@ -1,11 +1,13 @@
 -- What keeps a catalog sound.
 use mathlib.Core.Bool.{true≢false}
 use Rattle.std.proofs.Common.{◌≡◌, ℕ, ◌≤◌, Bool, true, false, not, ◌&&◌, cond, List, [], ◌∷◌, Option, Some, None, is_some, refl, sym, ap, subst, ◌∙◌, arith, nat_eq}
+use Rattle.std.proofs.lemmas.Option.{same_Some}
 use Rattle.std.specs.Cmp.Lexicographic.{pointwise}
 use Rattle.std.specs.FinMap as map
 use Rattle.std.specs.List.{find, IsDistinct}
 use Rattle.std.specs.Map.{lookup}
 use Rattle.std.specs.Option.{option_map}
+use Rattle.perm_values.proofs.Steps.{none_is_some}
 use Rattle.perm_catalog.specs.Changes.{table_named, view_named, nothing_held}
 use Rattle.perm_catalog.specs.Columns.{column_kinds}
 use Rattle.perm_catalog.specs.Contents.{Contents}
@@ -14,10 +16,7 @@ use Rattle.bag_algebra.specs.TablesRead.{TableRead}
 use Rattle.perm_catalog.specs.Sound.{IsSound, IsSoundTable, IsSoundView, IsHeldRead}
 use Rattle.perm_catalog.specs.declared.entries.TableEntry.{TableEntry}
 use Rattle.perm_catalog.specs.declared.entries.ViewEntry.{ViewEntry}
-use Rattle.stored_provenance.proofs.Marks.{some_same, AreApart, Goes, stored-goes}
-
-pub none_is_some : {X : Type 0} {P : Type 0} {x : X} → None ≡ Some x → P
-none_is_some e = cc
+use Rattle.stored_provenance.proofs.Marks.{AreApart, Goes, stored-goes}
 
 -- ---- what stays sound where little changes
 
@@ -104,7 +103,7 @@ unused-by view name e es false is h = (is, h)
 
 picked-by : (P : ViewEntry → Type 0) (e : List ℕ × ViewEntry) (later : Option ViewEntry) (view : ViewEntry) (b : Bool) →
     P e.1 → (later ≡ Some view → P view) → cond b (Some e.1) later ≡ Some view → P view
-picked-by P e later view true first rest h = subst P (some_same e.1 view h) first
+picked-by P e later view true first rest h = subst P (same_Some e.1 view h) first
 picked-by P e later view false first rest h = rest h
 
 unused-among : (test : List ℕ → Bool) (name : List ℕ) (view : ViewEntry) (es : List (List ℕ × ViewEntry)) →

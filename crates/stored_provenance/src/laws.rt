@@ -1,5 +1,6 @@
 //! What a table that stores provenance stands for: each law is the contract of a function that does nothing.
 ghost use Rattle.std.specs.Prelude.{◌≡◌, ℕ, List, [], Some, length};
+ghost use Rattle.perm_values.specs.Rows.{PlacesWithin};
 ghost use Rattle.bag_algebra.specs.Bags.{Bag, Row};
 ghost use Rattle.bag_algebra.specs.Kinds.{kinds_of};
 ghost use Rattle.bag_algebra.specs.Meaning.{denote, meaning};
@@ -7,7 +8,7 @@ ghost use Rattle.bag_algebra.specs.Outcome.{Good};
 ghost use Rattle.bag_algebra.specs.Rewriting.{SameRows};
 ghost use Rattle.bag_algebra.specs.TableRows.{rows_in};
 ghost use Rattle.bag_algebra.specs.TablesRead.{EachTable};
-ghost use Rattle.bag_algebra.specs.WellFormed.{WellFormed, PlacesIn};
+ghost use Rattle.bag_algebra.specs.WellFormed.{WellFormed};
 ghost use Rattle.bag_algebra.specs.built.Patterns.{ProvOf};
 ghost use Rattle.bag_algebra.specs.declared.query.Query.{Query};
 ghost use Rattle.contribution.specs.SameMeaning.{SameMeaning};
@@ -28,7 +29,7 @@ ghost use Rattle.stored_provenance.specs.Held.{IsHeldTable};
 pub fn a_new_mark_is_sound()
     ensures { (c : Contents) (columns : List Column) (rows : Bag) (input : Query) (places : List ℕ) →
         IsSound c → WellFormed [] (ProvOf input) → EachTable (IsHeldTable c) (ProvOf input) →
-        kinds_of (ProvOf input) ≡ column_kinds columns → PlacesIn (length columns) places →
+        kinds_of (ProvOf input) ≡ column_kinds columns → PlacesWithin (length columns) places →
         SameRows (meaning (ProvOf input) (rows_in c.rows) []) (Good rows) →
         IsSoundMark c columns rows (mark_of c (ProvOf input) places)
         × IsFresh c (mark_of c (ProvOf input) places) }

@@ -23,7 +23,7 @@ use Rattle.tree_texts.proofs.Written.{sorted, spellable}
 
 -- ---- tokens where they stand
 
-sort_again : (kind : TokenKind) (spelled : List ℕ) (number : ℤ) → sort_by kind (plain_spelled kind spelled number) ≡ sort_by kind spelled
+pub sort_again : (kind : TokenKind) (spelled : List ℕ) (number : ℤ) → sort_by kind (plain_spelled kind spelled number) ≡ sort_by kind spelled
 sort_again Word spelled number = refl
 sort_again Quoted spelled number = refl
 sort_again Number spelled number = refl
@@ -31,7 +31,7 @@ sort_again Text spelled number = refl
 sort_again Sign spelled number = refl
 
 -- a token keeps its sort wherever it stands
-sort_stays : (at : ℕ) (t : Token) → sort_of (at_place at t) ≡ sort_of t
+pub sort_stays : (at : ℕ) (t : Token) → sort_of (at_place at t) ≡ sort_of t
 sort_stays at t = sort_again t.kind t.spelled t.number
 
 spaced_append : (us vs : List Token) → spaced (us ++ vs) ≡ spaced us ++ spaced vs
@@ -74,12 +74,12 @@ text_is (as_symbol p) = text_is p
 
 -- ---- the tree of a plan
 
-contained : {sorts : List Sort} {sort : Sort} → OneOf sorts sort → Contains sorts sort
+pub contained : {sorts : List Sort} {sort : Sort} → OneOf sorts sort → Contains sorts sort
 contained (here {sort = sort} {sorts = sorts}) = (0, omega arith, refl)
 contained (there {sort = sort} {other = other} {sorts = sorts} is) =
     Contains-append_right (other ∷ []) sorts sort (contained is)
 
-blank_spelled : {rule : SqlRule} (b : Blank rule) → Spelled sql rule [] (blank_value b)
+pub blank_spelled : {rule : SqlRule} (b : Blank rule) → Spelled sql rule [] (blank_value b)
 blank_spelled left_out = rules.absent
 blank_spelled none = rules.no_more
 blank_spelled (both_blank b c) = rules.both {us = []} (blank_spelled b) (blank_spelled c)

@@ -4,7 +4,7 @@ use Rattle.std.specs.Char.{to_ascii_lowercase, to_ascii_uppercase}
 use Rattle.std.specs.List.{list_all, AllByRecursion}
 use Rattle.std.specs.Str.{IsAscii, IsUtf8, str_to_ascii_lowercase, str_to_ascii_uppercase}
 use Rattle.std.specs.Prelude.{nat_lt}
-use Rattle.std.proofs.lemmas.Bool.{cond_both, ltb-true, ltb-false}
+use Rattle.std.proofs.lemmas.Bool.{cond_both, ltb-true, ltb-false, and_from, and_parts}
 use Rattle.std.proofs.lemmas.Bool.Decides.{nat_tests}
 use Rattle.std.proofs.lemmas.List.{length-append, append-nil}
 use Rattle.std.proofs.lemmas.Str.{IsUtf8-nil, IsUtf8-append, IsUtf8-from_ascii}
@@ -17,8 +17,6 @@ use Rattle.sql_lexer.specs.Lexes.{IsWord, Piece, blank, token, LexesTo, nothing,
 use Rattle.sql_lexer.specs.Printing.{bytes_of, CanSpell, IsSpellable}
 use Rattle.sql_lexer.proofs.Ascii.{one_utf8}
 use Rattle.sql_lexer.proofs.Classes.{letter_joins, word_ascii}
-use Rattle.sql_lexer.proofs.Fronts.{and_parts}
-use Rattle.sql_lexer.proofs.Numbers.{and_true}
 use Rattle.sql_lexer.proofs.Printed.{piece_again, script_again}
 use Rattle.tree_texts.specs.Standing.{Span, Places, at_span, standing, CanStand}
 use Rattle.tree_texts.specs.Texts.{shown_by, shown, shown_tokens, places_from}
@@ -51,7 +49,7 @@ upper_all : (bytes : List ℕ) → list_all is_word bytes ≡ true → list_all 
 upper_all [] all = refl
 upper_all (b ∷ bytes) all =
     let parts = and_parts (is_word b) (list_all is_word bytes) all in
-    and_true (is_word (to_ascii_uppercase b)) (list_all is_word (str_to_ascii_uppercase bytes)) (upper_joins b parts.0) (upper_all bytes parts.1)
+    and_from (is_word (to_ascii_uppercase b)) (list_all is_word (str_to_ascii_uppercase bytes)) (upper_joins b parts.0) (upper_all bytes parts.1)
 
 upper_word : (bytes : List ℕ) → IsWord bytes → IsWord (str_to_ascii_uppercase bytes)
 unfolding class_of
@@ -119,7 +117,7 @@ word_is_ascii (b ∷ bytes) all (suc i) = word_is_ascii bytes (and_parts (is_wor
 
 all_joins : (bytes : List ℕ) → IsWord bytes → list_all is_word bytes ≡ true
 all_joins [] is = absurd is
-all_joins (b ∷ bytes) is = and_true (is_word b) (list_all is_word bytes) (letter_joins b is.0) is.1
+all_joins (b ∷ bytes) is = and_from (is_word b) (list_all is_word bytes) (letter_joins b is.0) is.1
 
 upper_utf8 : (bytes : List ℕ) → IsWord bytes → IsUtf8 (str_to_ascii_uppercase bytes)
 upper_utf8 bytes is = IsUtf8-from_ascii _ (IsAscii-map to_ascii_uppercase bytes uppercase_ascii (word_is_ascii bytes (all_joins bytes is)))

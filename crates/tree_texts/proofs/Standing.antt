@@ -1,50 +1,27 @@
 -- The tokens of a plan spell what it gives wherever they stand, and can be written where those that it chooses can.
-use Rattle.std.proofs.Common.{◌≡◌, ℕ, zero, suc, ℤ, ◌+◌, true, List, [], ◌∷◌, ◌++◌, length, Contains, add-zero, refl, sym, ap, subst, ◌∙◌, append-nil, arith}
+use Rattle.std.proofs.Common.{◌≡◌, ℕ, zero, suc, ◌+◌, true, List, [], ◌∷◌, ◌++◌, length, Contains, add-zero, refl, sym, ap, subst, ◌∙◌, append-nil, arith}
 use Rattle.std.specs.Prelude.{nat_lt}
 use Rattle.std.specs.List.{list_all, AllByRecursion}
 use Rattle.std.specs.Str.{IsAscii}
-use Rattle.std.proofs.lemmas.Bool.{ltb-true}
-use Rattle.std.proofs.lemmas.List.Elements.{Contains-append_right}
+use Rattle.std.proofs.lemmas.Bool.{ltb-true, and_parts}
 use Rattle.std.proofs.lemmas.Str.{IsUtf8-from_ascii}
 use Rattle.sql_lexer.specs.declared.token.Token.{Token}
-use Rattle.sql_lexer.specs.declared.token.TokenKind.{TokenKind}
-use Rattle.sql_lexer.specs.declared.token.TokenKind.TheVariants.{Word, Quoted, Number, Text, Symbol as Sign}
-use Rattle.sql_lexer.specs.Printing.{plain_spelled}
-use Rattle.sql_lexer.proofs.Fronts.{and_parts}
 use Rattle.sql_tree.specs.grammar.Grammar.{sql, SqlRule}
 use Rattle.sql_tree.specs.grammar.Rules as rules
 use Rattle.sql_tree.specs.grammar.Rules.{◌then◌, many, Spelled, StartsAt}
-use Rattle.sql_tree.specs.grammar.Sorts.{sort_of, sort_by}
+use Rattle.sql_tree.specs.grammar.Sorts.{sort_of}
 use Rattle.sql_tree.specs.declared.grammar.sort.Sort.{Sort}
 use Rattle.sql_tree.specs.declared.grammar.sort.Sort.TheVariants as s
-use Rattle.tree_texts.specs.plans.Blanks.{Blank, left_out, none, both_blank, blank_symbol, blank_value}
-use Rattle.tree_texts.specs.plans.Plans.{OneOf, here, there, Plan, a_word, a_choice, a_token, both, before, behind, first, second, front_first, front_second, absent, present, no_more, one_more, one_last, at_start, as_symbol, tokens_of}
+use Rattle.tree_texts.specs.plans.Plans.{Plan, a_word, a_choice, a_token, both, before, behind, first, second, front_first, front_second, absent, present, no_more, one_more, one_last, at_start, as_symbol, tokens_of}
 use Rattle.tree_texts.specs.plans.Written.{is_written, token_for}
+use Rattle.tree_texts.proofs.Planned.{sort_again, contained, blank_spelled}
 use Rattle.tree_texts.proofs.Written.{sorted, spellable}
 use Rattle.tree_texts.specs.Standing.{Span, Places, at_span, standing, given, CanStand, Sound}
 
 -- ---- what tokens spell
 
-sort_again : (kind : TokenKind) (spelled : List ℕ) (number : ℤ) → sort_by kind (plain_spelled kind spelled number) ≡ sort_by kind spelled
-sort_again Word spelled number = refl
-sort_again Quoted spelled number = refl
-sort_again Number spelled number = refl
-sort_again Text spelled number = refl
-sort_again Sign spelled number = refl
-
 sort_stays : (span : Span) (t : Token) → sort_of (at_span span t) ≡ sort_of t
 sort_stays span t = sort_again t.kind t.spelled t.number
-
-contained : {sorts : List Sort} {sort : Sort} → OneOf sorts sort → Contains sorts sort
-contained (here {sort = sort} {sorts = sorts}) = (0, omega arith, refl)
-contained (there {sort = sort} {other = other} {sorts = sorts} is) =
-    Contains-append_right (other ∷ []) sorts sort (contained is)
-
-blank_spelled : {rule : SqlRule} (b : Blank rule) → Spelled sql rule [] (blank_value b)
-blank_spelled left_out = rules.absent
-blank_spelled none = rules.no_more
-blank_spelled (both_blank b c) = rules.both {us = []} (blank_spelled b) (blank_spelled c)
-blank_spelled (blank_symbol b) = rules.as_symbol (blank_spelled b)
 
 module _ (places : Places) where
   standing_append : (i : ℕ) (us vs : List Token) → standing places i (us ++ vs) ≡ standing places i us ++ standing places (i + length us) vs
@@ -87,7 +64,7 @@ module _ (places : Places) where
 
 -- ---- tokens that can be written
 
-all_ascii : (bytes : List ℕ) → list_all (λ b. nat_lt b 128) bytes ≡ true → IsAscii bytes
+pub all_ascii : (bytes : List ℕ) → list_all (λ b. nat_lt b 128) bytes ≡ true → IsAscii bytes
 all_ascii [] all i = omega arith
 all_ascii (b ∷ bytes) all zero = ltb-true b 128 (and_parts (nat_lt b 128) (list_all (λ b. nat_lt b 128) bytes) all).0
 all_ascii (b ∷ bytes) all (suc i) = all_ascii bytes (and_parts (nat_lt b 128) (list_all (λ b. nat_lt b 128) bytes) all).1 i

@@ -12,7 +12,7 @@ use Rattle.sql_tree.specs.grammar.Rules.{word, token, ◌then◌, ◌or◌, opti
 use Rattle.sql_tree.specs.grammar.Symbols as n
 use Rattle.sql_tree.specs.declared.grammar.sort.Sort.TheVariants as s
 use Rattle.tree_texts.specs.plans.Blanks.{blank_symbol, left_out, none}
-use Rattle.tree_texts.specs.plans.Levels.{a_name, number_token, to_sign, to_product, to_sum, to_ranged, to_compared, to_test, to_negated, to_both, to_expr, operand, tested, expression}
+use Rattle.tree_texts.specs.plans.Levels.{a_name, number_token, to_sign, to_product, to_sum, to_ranged, to_compared, to_test, to_negated, to_both, to_expr, operand, tested, expression, core}
 use Rattle.tree_texts.specs.plans.Plans.{Plan, here, there, a_word, a_choice, a_token, both, before, behind, first, second, front_first, front_second, absent, present, no_more, one_more, at_start, as_symbol}
 use Rattle.tree_texts.specs.plans.Written.{token_of}
 use Rattle.tree_texts.specs.Forms as f
@@ -231,20 +231,17 @@ joining_lateral true p name =
     as_symbol (second (first (as_symbol (both (a_word refl) (behind left_out (both (a_word refl)
     (front_first (both (lateral_query p name) (both (a_word refl) (a_word refl))))))))))
 
-abbrev pub to_operand : Plan (symbol n.CoreOf) → Plan (symbol n.Operand)
-to_operand p = as_symbol (first p)
-
 abbrev pub union_step : United → Bool → Plan (symbol n.CoreOf) → Plan (symbol n.UnionStep)
-union_step kind every p = as_symbol (both (uniting kind) (both (maybe_all every) (at_start (as_symbol (before (to_operand p) none)))))
+union_step kind every p = as_symbol (both (uniting kind) (both (maybe_all every) (at_start (as_symbol (before (core p) none)))))
 
 abbrev pub intersect_step : Bool → Plan (symbol n.CoreOf) → Plan (symbol n.IntersectStep)
-intersect_step every p = as_symbol (both (a_word refl) (both (maybe_all every) (at_start (to_operand p))))
+intersect_step every p = as_symbol (both (a_word refl) (both (maybe_all every) (at_start (core p))))
 
 abbrev pub resting : Plan (many (symbol n.IntersectStep)) → Plan (many (symbol n.UnionStep)) → List KeyForm → Option ℕ → Plan (symbol n.QueryRest)
 resting intersects unions keys number = as_symbol (both intersects (both unions (both (ordered keys) (limited number))))
 
 abbrev pub whole_query : Plan (symbol n.CoreOf) → Plan (symbol n.QueryRest) → Plan (symbol n.Query)
-whole_query p rest = as_symbol (at_start (both (to_operand p) rest))
+whole_query p rest = as_symbol (at_start (both (core p) rest))
 
 abbrev pub inner_query : Plan (symbol n.CoreOf) → Plan (symbol n.QueryRest) → Plan (symbol n.Inner)
 inner_query p rest = as_symbol (at_start (both p rest))

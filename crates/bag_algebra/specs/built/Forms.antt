@@ -1,6 +1,7 @@
 -- When what the constructors of code make is well formed, and which tables it reads, in words on plain lists of children.
 use Rattle.std.specs.Prelude.{◌≡◌, ⊤, ℕ, suc, Bool, List, [], ◌∷◌, ◌++◌, length, map}
 use Rattle.std.proofs.Common.{refl, ap, ◌∙◌}
+use Rattle.perm_values.specs.Rows.{KeysWithin, PlacesWithin}
 use Rattle.perm_values.specs.declared.key.Key.{Key}
 use Rattle.perm_values.specs.declared.kind.Kind.{Kind}
 use Rattle.perm_values.specs.declared.kind.Kind.TheVariants.{Integer, Boolean}
@@ -8,7 +9,7 @@ use Rattle.bag_algebra.specs.built.Openings.{row_of_parts, row_of_steps, row_of_
 use Rattle.bag_algebra.specs.TablesRead.{EachTable, EachSubTable}
 use Rattle.bag_algebra.specs.Kinds.{kinds_of, width_of}
 use Rattle.bag_algebra.specs.built.Patterns.{FilterOf, JoinOf}
-use Rattle.bag_algebra.specs.WellFormed.{HasKind, PartsHave, StepsHave, ArmsHave, ArmForm, number_of_parts, number_of_steps, number_of_arms, PlacesIn, KeysIn, ItemsForm, AggregatesForm, sub_form, sub_kind, sub_kinds, SubForm, BaseForm, FilterForm, ProjectForm, JoinForm, ApplyForm, SetForm, AggregateForm, LimitForm, WellFormed, SubsForm}
+use Rattle.bag_algebra.specs.WellFormed.{HasKind, PartsHave, StepsHave, ArmsHave, ArmForm, number_of_parts, number_of_steps, number_of_arms, ItemsForm, AggregatesForm, sub_form, sub_kind, sub_kinds, SubForm, BaseForm, FilterForm, ProjectForm, JoinForm, ApplyForm, SetForm, AggregateForm, LimitForm, WellFormed, SubsForm}
 use Rattle.bag_algebra.specs.declared.expr.Arm.{Arm}
 use Rattle.bag_algebra.specs.declared.expr.ChainStep.{ChainStep}
 use Rattle.bag_algebra.specs.declared.expr.Expr.{Expr}
@@ -129,7 +130,7 @@ EachSubTable-row_of_subs P (sub ∷ subs) = ap (λ others. EachTable P sub.query
 
 module _ (outer : List (List Kind)) where
   pub WellFormed-Base : (input : Query) (places : List ℕ) (label : Label) →
-      WellFormed outer (Base input places label) ≡ BaseForm (WellFormed outer input) (PlacesIn (width_of input) places) places label
+      WellFormed outer (Base input places label) ≡ BaseForm (WellFormed outer input) (PlacesWithin (width_of input) places) places label
   WellFormed-Base input places label = ap (WellFormed outer) (Base-is input places label)
 
   pub WellFormed-Filter : (input : Query) (condition : Expr) (subs : List Sublink) →
@@ -180,11 +181,11 @@ module _ (outer : List (List Kind)) where
 
   pub WellFormed-Aggregate : (input : Query) (groups : List ℕ) (aggregates : List Aggr) →
       WellFormed outer (Aggregate input groups aggregates)
-      ≡ AggregateForm (WellFormed outer input) (PlacesIn (width_of input) groups) (AggregatesForm (kinds_of input ∷ outer) aggregates)
+      ≡ AggregateForm (WellFormed outer input) (PlacesWithin (width_of input) groups) (AggregatesForm (kinds_of input ∷ outer) aggregates)
   WellFormed-Aggregate input groups aggregates = ap (WellFormed outer) (Aggregate-is input groups aggregates)
 
   pub WellFormed-Limit : (input : Query) (keys : List Key) (count : ℕ) →
-      WellFormed outer (Limit input keys count) ≡ LimitForm (WellFormed outer input) (KeysIn (width_of input) keys) count
+      WellFormed outer (Limit input keys count) ≡ LimitForm (WellFormed outer input) (KeysWithin (width_of input) keys) count
   WellFormed-Limit input keys count = ap (WellFormed outer) (Limit-is input keys count)
 
   pub WellFormed-Prov : (input : Query) → WellFormed outer (Prov input) ≡ WellFormed outer input

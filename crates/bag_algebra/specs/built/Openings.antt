@@ -6,12 +6,11 @@ use Rattle.std.specs.List.{flat_map}
 use Rattle.null_logic.specs.declared.operator.Operator.{Operator}
 use Rattle.null_logic.specs.declared.truth.Truth.{Truth}
 use Rattle.perm_values.specs.Rows.{printed_cmp}
-use Rattle.perm_values.specs.Values.{same_value}
+use Rattle.perm_values.specs.Values.{same_value, is_null}
 use Rattle.perm_values.specs.declared.key.Key.{Key}
 use Rattle.perm_values.specs.declared.kind.Kind.{Kind}
 use Rattle.perm_values.specs.declared.value.Value.{Value}
 use Rattle.perm_values.specs.declared.value.Value.TheVariants.{Boolean}
-use Rattle.null_logic.specs.Comparison.{is_null}
 use Rattle.bag_algebra.specs.Bags.{Row, Bag, once, sorted, union_of, intersect_of, except_of}
 use Rattle.bag_algebra.specs.Children.{part_values, step_of, arms_value, subs_denote, subs_shape}
 use Rattle.bag_algebra.specs.Expressions.{value, values, step_values, arm_value, Step, operate, chain, has_truth, chosen_arm}
@@ -155,7 +154,7 @@ unfolding shape-the_row-Expr-0 hidden-the_row-Expr-0 package.denote.Hole.Carrier
 values-row_of_parts [] u env subs = refl
 values-row_of_parts (part ∷ parts) u env subs = ap (both (λ v vs. v ∷ vs) (value part u env subs)) (values-row_of_parts parts u env subs)
 
-both-mapped : {X Y Z W : Type 0} (f : Y → Z → W) (g : X → Y) (a : Outcome X) (b : Outcome Z) → both (λ x z. f (g x) z) a b ≡ both f (mapped g a) b
+pub both-mapped : {X Y Z W : Type 0} (f : Y → Z → W) (g : X → Y) (a : Outcome X) (b : Outcome Z) → both (λ x z. f (g x) z) a b ≡ both f (mapped g a) b
 both-mapped f g (Good x) (Good z) = refl
 both-mapped f g (Good x) (Bad h) = refl
 both-mapped f g (Bad k) (Good z) = refl

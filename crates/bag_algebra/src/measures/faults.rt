@@ -54,9 +54,9 @@ fn own_faultless(query: &Query) -> bool
     }
 }
 
-/// Whether no sublink is a scalar one, and what they test and their queries are free of faults.
+/// Whether no sublink is a scalar one, and what they test and their queries are free of faults. It takes no memory.
 #[cycle(fault_free)]
-fn all_fault_free(subs: &[Sublink]) -> bool
+pub fn all_fault_free(subs: &[Sublink]) -> bool
     ensures { result ≡ all_fault_free subs.now }
 {
     for sub in subs {
@@ -72,7 +72,8 @@ fn all_fault_free(subs: &[Sublink]) -> bool
     true
 }
 
-fn items_faultless(items: &[Item]) -> bool
+/// Whether no item may fault. It takes no memory.
+pub fn items_faultless(items: &[Item]) -> bool
     ensures { result ≡ items_faultless items.now }
 {
     for item in items {

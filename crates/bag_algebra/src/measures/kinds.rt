@@ -1,13 +1,14 @@
 //! How many columns a query has.
 #![tactic(auto, using(crate::proofs::Smaller::smaller))]
 
-ghost use Rattle.std.specs.Prelude.{◌≡◌, ◌-◌, ◌^◌, min, length};
+ghost use Rattle.std.specs.Prelude.{◌≡◌, ◌≤◌, ◌-◌, ◌^◌, IfErr, IfOk, min, length};
 ghost use Rattle.bag_algebra.specs.Children.{inputs_shape, subs_shape};
 ghost use Rattle.bag_algebra.specs.Inputs.{given};
 ghost use Rattle.bag_algebra.specs.Kinds.{width_of, place_kinds, shape};
 
 use crate::children::Inputs;
 use crate::query::{Query, Sublink};
+use perm_values::NoMemory;
 
 /// The number of columns. It stays at `usize::MAX` where it would be greater. It takes no memory.
 pub fn width(query: &Query) -> usize
@@ -33,6 +34,18 @@ pub fn width(query: &Query) -> usize
         Query::Limit { input, .. } => width(input.get()),
         Query::Prov { input } => width(input.get()).saturating_add(places_width(input.get())),
     }
+}
+
+/// The number of columns. Want of memory comes only where it isn't below `usize::MAX`, at which `width` stays.
+pub fn exact_width(query: &Query) -> Result<usize, NoMemory>
+    ensures columns { IfOk result (λ count. count ≡ width_of query.now) }
+    ensures lacking { IfErr result (λ _. 2 ^ 64 - 1 ≤ width_of query.now) }
+{
+    let count = width(query);
+    if count == usize::MAX {
+        return Err(NoMemory);
+    }
+    Ok(count)
 }
 
 /// The number of the columns of all places of the query's witness lists.

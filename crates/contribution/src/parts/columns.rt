@@ -1,19 +1,19 @@
 //! Columns as items, and the columns of a query in another order.
 ghost use Rattle.std.specs.Prelude.{◌≡◌, [], ◌∷◌, List, IfOk, map, length};
-ghost use Rattle.perm_values.specs.Rows.{picked};
+ghost use Rattle.perm_values.specs.Rows.{picked, PlacesWithin};
 ghost use Rattle.bag_algebra.specs.Bags.{Row};
 ghost use Rattle.bag_algebra.specs.ColumnItems.{column_items};
-ghost use Rattle.bag_algebra.specs.Kinds.{kinds_of, kinds_in, width_of};
+ghost use Rattle.bag_algebra.specs.Kinds.{kinds_of, kinds_in, width_of, item_kinds};
 ghost use Rattle.bag_algebra.specs.Meaning.{Database, meaning, items_on};
 ghost use Rattle.bag_algebra.specs.Means.{no_subs};
 ghost use Rattle.bag_algebra.specs.Outcome.{Good, mapped};
 ghost use Rattle.bag_algebra.specs.built.Patterns.{ProjectOf};
 ghost use Rattle.bag_algebra.specs.Rewriting.{is_plain};
 ghost use Rattle.bag_algebra.specs.TablesRead.{tables_read};
-ghost use Rattle.bag_algebra.specs.WellFormed.{WellFormed, ItemsForm, PlacesIn};
+ghost use Rattle.bag_algebra.specs.WellFormed.{WellFormed, ItemsForm};
 ghost use Rattle.bag_algebra.specs.declared.query.Query.{end_of-Sublink};
 ghost use Rattle.perm_values.specs.declared.kind.Kind.{Kind};
-ghost use Rattle.contribution.specs.ItemKinds.{item_kinds, column_of};
+ghost use Rattle.contribution.specs.ItemKinds.{column_of};
 
 use crate::parts::nodes::projection;
 use crate::places::{kind_or_text, kinds};
@@ -31,7 +31,7 @@ pub fn regroup(alloc: Global, query: Query, order: &[usize]) -> Result<Query, No
     ensures kinds { IfOk result (λ p. kinds_of p ≡ kinds_in (kinds_of query) order.now) }
     ensures rows { IfOk result (λ p. (db : Database) (env : List Row) →
         meaning p db env ≡ mapped (map (picked order.now)) (meaning query db env)) }
-    ensures formed { IfOk result (λ p. PlacesIn (width_of query) order.now → (outer : List (List Kind)) →
+    ensures formed { IfOk result (λ p. PlacesWithin (width_of query) order.now → (outer : List (List Kind)) →
         WellFormed outer query → WellFormed outer p) }
     ensures plain { IfOk result (λ p. is_plain p ≡ is_plain query) }
     ensures tables { IfOk result (λ p. tables_read p ≡ tables_read query) }
@@ -58,7 +58,7 @@ pub fn column_items(alloc: Global, kinds: &[Kind], order: &[usize]) -> Result<Li
     ensures kinds { IfOk result (λ items. item_kinds items ≡ kinds_in kinds.now order.now) }
     ensures values { IfOk result (λ items. (env : List Row) (u : Row) →
         items_on items env no_subs u ≡ Good (picked order.now u)) }
-    ensures formed { IfOk result (λ items. PlacesIn (length kinds.now) order.now →
+    ensures formed { IfOk result (λ items. PlacesWithin (length kinds.now) order.now →
         (outer : List (List Kind)) → ItemsForm (kinds.now ∷ outer) [] items) }
 {
     let mut items = List::new(alloc);
@@ -68,7 +68,8 @@ pub fn column_items(alloc: Global, kinds: &[Kind], order: &[usize]) -> Result<Li
     Ok(items)
 }
 
-fn column(place: usize, kind: Kind) -> Item
+/// The column of the own row at the place, of this kind. It takes no memory.
+pub fn column(place: usize, kind: Kind) -> Item
     ensures { result ≡ column_of kind place }
 {
     Item {

@@ -1,7 +1,7 @@
 //! Projections, filters and joins without sublinks.
 ghost use Rattle.std.specs.Prelude.{◌≡◌, ◌&&◌, ◌++◌, [], ◌∷◌, List, IfOk};
 ghost use Rattle.bag_algebra.specs.Bags.{Row};
-ghost use Rattle.bag_algebra.specs.Kinds.{kinds_of, width_of};
+ghost use Rattle.bag_algebra.specs.Kinds.{kinds_of, width_of, item_kinds};
 ghost use Rattle.bag_algebra.specs.Meaning.{Database, meaning, condition_on, items_on};
 ghost use Rattle.bag_algebra.specs.Means.{no_subs, kept, joined_rows};
 ghost use Rattle.bag_algebra.specs.Outcome.{and_then, both_then, each, gather};
@@ -9,13 +9,14 @@ ghost use Rattle.bag_algebra.specs.built.Patterns.{FilterOf, JoinOf, ProjectOf};
 ghost use Rattle.bag_algebra.specs.Rewriting.{is_plain};
 ghost use Rattle.bag_algebra.specs.TablesRead.{tables_read};
 ghost use Rattle.bag_algebra.specs.WellFormed.{WellFormed, HasKind, ItemsForm};
+ghost use Rattle.bag_algebra.specs.declared.query.JoinKind.TheVariants.{Inner, Left};
 ghost use Rattle.bag_algebra.specs.declared.query.Query.{end_of-Sublink};
+ghost use Rattle.bag_algebra.specs.declared.query.Query.TheVariants.{Table};
 ghost use Rattle.perm_values.specs.declared.kind.Kind.{Kind};
 ghost use Rattle.perm_values.specs.declared.kind.Kind.TheVariants.{Boolean};
-ghost use Rattle.contribution.specs.ItemKinds.{item_kinds};
 
-use bag_algebra::{Expr, Item, JoinKind, Query};
-use perm_values::{List, NoMemory};
+use bag_algebra::{Expr, Item, JoinKind, Query, Sublink};
+use perm_values::{Copyable, Kind, List, NoMemory};
 use std::alloc::Global;
 
 /// A projection of the query to the items, without sublinks. It is well formed where the query and the items are, plain
@@ -70,4 +71,43 @@ pub fn join_on(
     ensures tables { IfOk result (λ p. tables_read p ≡ tables_read left ++ tables_read right) }
 {
     Query::join(alloc, kind, left, right, condition, List::new(alloc))
+}
+
+/// The kind of a join that keeps left rows without partner, beside NULLs.
+pub fn outwards() -> JoinKind
+    ensures { result ≡ Left }
+{
+    JoinKind::Left
+}
+
+/// The kind of a join that keeps no row without partner.
+pub fn inwards() -> JoinKind
+    ensures { result ≡ Inner }
+{
+    JoinKind::Inner
+}
+
+/// The table of this identity. It fails only for want of memory.
+pub fn table(alloc: Global, id: u64, kinds: &List<Kind>) -> Result<Query, NoMemory>
+    ensures { IfOk result (λ p. p ≡ Table id kinds.now) }
+{
+    let kinds = kinds.copy(alloc)?;
+    Ok(Query::Table { id, kinds })
+}
+
+/// The sublink over that query. It fails only for want of memory.
+pub fn sublink_over(alloc: Global, sub: &Sublink, query: Query) -> Result<Sublink, NoMemory>
+    ensures kind_kept { IfOk result (λ other. other.kind ≡ sub.now.kind) }
+    ensures tested_kept { IfOk result (λ other. other.tested ≡ sub.now.tested) }
+    ensures over { IfOk result (λ other. other.query ≡ query) }
+{
+    let Ok(tested) = sub.tested.copy(alloc) else {
+        drop(query);
+        return Err(NoMemory);
+    };
+    Ok(Sublink {
+        kind: sub.kind,
+        tested,
+        query,
+    })
 }

@@ -1,12 +1,12 @@
 //! NULLs as items.
 ghost use Rattle.std.specs.Prelude.{◌≡◌, [], List, IfOk, map, length};
 ghost use Rattle.bag_algebra.specs.Bags.{Row, nulls};
+ghost use Rattle.bag_algebra.specs.Kinds.{item_kinds};
 ghost use Rattle.bag_algebra.specs.Meaning.{items_on};
 ghost use Rattle.bag_algebra.specs.Means.{no_subs};
 ghost use Rattle.bag_algebra.specs.Outcome.{Good};
 ghost use Rattle.bag_algebra.specs.WellFormed.{ItemsForm};
 ghost use Rattle.perm_values.specs.declared.kind.Kind.{Kind};
-ghost use Rattle.contribution.specs.ItemKinds.{item_kinds};
 ghost use Rattle.contribution.specs.NullItems.{null_item};
 
 use bag_algebra::{Expr, Item};

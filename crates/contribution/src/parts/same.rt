@@ -5,8 +5,8 @@ ghost use Rattle.bag_algebra.specs.Expressions.{row_at, value};
 ghost use Rattle.bag_algebra.specs.FaultFree.{faultless};
 ghost use Rattle.bag_algebra.specs.Kinds.{kinds_in};
 ghost use Rattle.bag_algebra.specs.Outcome.{Good};
-ghost use Rattle.bag_algebra.specs.WellFormed.{HasKind, PlacesIn};
-ghost use Rattle.perm_values.specs.Rows.{picked, same_row};
+ghost use Rattle.bag_algebra.specs.WellFormed.{HasKind};
+ghost use Rattle.perm_values.specs.Rows.{picked, same_row, PlacesWithin};
 ghost use Rattle.perm_values.specs.declared.kind.Kind.{Kind};
 ghost use Rattle.perm_values.specs.declared.kind.Kind.TheVariants as kind;
 ghost use Rattle.perm_values.specs.declared.value.Value.{Value};
@@ -36,7 +36,7 @@ pub fn same_columns(
     ensures kind { IfOk result (λ test.
         (kinds others : List Kind) (outer : List (List Kind)) (subs : List Kind) →
         slice_get (kinds ∷ outer) level ≡ Some others →
-        PlacesIn (length others) theirs.now → PlacesIn (length kinds) own.now →
+        PlacesWithin (length others) theirs.now → PlacesWithin (length kinds) own.now →
         kinds_in others theirs.now ≡ kinds_in kinds own.now →
         HasKind (kinds ∷ outer) subs test kind.Boolean) }
     ensures faultless { IfOk result (λ test. IsTrue (faultless test)) }

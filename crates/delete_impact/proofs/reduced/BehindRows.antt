@@ -1,8 +1,9 @@
 -- A closed query behind another: itself where that one is good, and else that one's faults alone.
-use Rattle.std.proofs.Common.{◌≡◌, ℕ, ◌<◌, true, List, [], ◌∷◌, ◌++◌, map, refl, sym, ap, ◌∙◌, subst, append-nil}
+use Rattle.std.proofs.Common.{◌≡◌, ℕ, ◌<◌, true, List, [], ◌∷◌, ◌++◌, map, refl, sym, ap, ◌∙◌, append-nil}
 use Rattle.std.proofs.lemmas.List.{map-id}
 use Rattle.std.proofs.lemmas.List.Elements.{All-nil}
 use Rattle.perm_values.specs.declared.kind.Kind.{Kind}
+use Rattle.perm_values.proofs.Steps.{by}
 use Rattle.bag_algebra.proofs.Truths.{both-true}
 use Rattle.bag_algebra.specs.Bags.{Row, Bag}
 use Rattle.bag_algebra.specs.Kinds.{kinds_of, width_of}
@@ -68,9 +69,6 @@ module _ (first q : Query) (closed : WellFormed [] q) (db : Database) where
       ∙ on-one (meaning first db [])
 
 -- ---- forms
-
-pub by : {A B : Type 0} → A ≡ B → A → B
-by e a = subst (λ (X : Type 0). X) e a
 
 module _ (first q : Query) where
   abbrev one_row : Query

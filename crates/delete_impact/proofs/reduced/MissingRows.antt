@@ -1,6 +1,7 @@
 -- The rows that a query doesn't have over what is left of a table: what they are, their columns, form and tables.
 use Rattle.std.proofs.Common.{◌≡◌, ℕ, true, false, List, [], sym, ◌∙◌}
 use Rattle.perm_values.specs.declared.kind.Kind.{Kind}
+use Rattle.perm_values.proofs.Steps.{by}
 use Rattle.bag_algebra.proofs.Truths.{both-true}
 use Rattle.bag_algebra.specs.Bags.{except_of}
 use Rattle.bag_algebra.specs.Kinds.{kinds_of}
@@ -17,7 +18,6 @@ use Rattle.bag_algebra.specs.declared.query.Query.{Query}
 use Rattle.bag_algebra.specs.declared.query.Query.TheVariants.{Except}
 use Rattle.query_facts.specs.monotone.Monotone.{is_monotone}
 use Rattle.delete_impact.specs.reduced.Reduced.{not_true, over_rows, reduced, missing, missing_part}
-use Rattle.delete_impact.proofs.reduced.BehindRows.{by}
 use Rattle.delete_impact.proofs.reduced.OverRowsForms.{plain-monotone, formed-over_rows, kinds-over_rows, plain-over_rows, tables-over_rows, not_true-on_tables, OnTables}
 
 -- ---- of any two queries

@@ -7,7 +7,7 @@ ghost use Rattle.bag_algebra.specs.FaultFree.{fault_free, faultless, items_fault
 ghost use Rattle.bag_algebra.specs.Inputs.{given};
 ghost use Rattle.delete_impact.specs.reduced.Hiding.{hides_none, own_hides_none};
 
-use bag_algebra::{Expr, Inputs, Item, Query, fault_free, faultless};
+use bag_algebra::{Expr, Inputs, Item, Query, fault_free, faultless, items_faultless};
 
 /// Whether in the query, which is monotone, no fault hides another: each condition and each list of items that may fault is
 /// looked at on rows of queries that can meet no fault. It takes no memory.
@@ -82,15 +82,4 @@ fn both_fault_free(left: &Query, right: &Query) -> bool
     ensures { result ≡ (fault_free left.now && fault_free right.now) }
 {
     fault_free(left) && fault_free(right)
-}
-
-fn items_faultless(items: &[Item]) -> bool
-    ensures { result ≡ items_faultless items.now }
-{
-    for item in items {
-        if !faultless(&item.expr) {
-            return false;
-        }
-    }
-    true
 }

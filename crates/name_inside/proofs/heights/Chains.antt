@@ -3,7 +3,7 @@ use Rattle.std.specs.Prelude.{◌≡◌, ◌<◌, ◌+◌, ℕ, suc, max, List, 
 use Rattle.std.proofs.Common.{ap, arith, get_or, refl, sym, length-take, ◌∙◌}
 use Rattle.std.proofs.lemmas.List.{length-map, map-append}
 use Rattle.std.proofs.lemmas.List.Sums.{fold_push}
-use Rattle.contribution.proofs.Added.{one_more}
+use Rattle.perm_values.proofs.Lists.{taken}
 use Rattle.name_inside.specs.heights.Least.{above_both, chain_least, sources_least}
 
 pub regrouped : (a b c both all : ℕ) → both ≡ max a b → all ≡ max both c → all ≡ max a (max b c)
@@ -11,7 +11,7 @@ regrouped a b c both all first more = omega (arith, first, more)
 
 module _ {X : Type 0} (least : X → ℕ) (xs : List X) (i : ℕ) (x : X) (within : i < length xs) (is : x ≡ get_or xs i x) where
   mapped : map least (take (i + 1) xs) ≡ map least (take i xs) ++ least x ∷ []
-  mapped = ap (map least) (one_more xs i x within is) ∙ map-append least (take i xs) (x ∷ [])
+  mapped = ap (map least) (taken xs i x within is) ∙ map-append least (take i xs) (x ∷ [])
 
   -- one more part of a chain, or of what is as high as the highest
   pub grown : (over : ℕ → ℕ → ℕ) (first height part new : ℕ) → new ≡ over height part → part ≡ least x → height ≡ fold over first (map least (take i xs))

@@ -11,6 +11,7 @@ use Rattle.null_logic.specs.declared.truth.Truth.{Truth}
 use Rattle.perm_catalog.specs.Contents.{Contents}
 use Rattle.perm_values.specs.declared.kind.Kind.{Kind}
 use Rattle.perm_values.specs.declared.kind.Kind.TheVariants as kind
+use Rattle.perm_values.proofs.Lists.{front-none, back-none}
 use Rattle.sql_tree.specs.declared.expression.ArmTree.{ArmTree}
 use Rattle.sql_tree.specs.declared.expression.ExprBody.TheOpen.{ExprBody-F}
 use Rattle.sql_tree.specs.declared.expression.ExprBody.TheVariants as e
@@ -33,7 +34,6 @@ use Rattle.name_meaning.specs.declared.need.Need.{Need}
 use Rattle.name_meaning.specs.declared.need.Need.TheVariants.{OfKind as of_kind, Alike as alike, Free as free}
 use Rattle.name_meaning.specs.declared.rule.Rule.TheVariants as rule
 use Rattle.name_meaning.specs.declared.scope.Scope.{Scope}
-use Rattle.name_meaning.proofs.Every.{back-none, front-none}
 use Rattle.name_inside.proofs.heights.Operands.{node-high, operand-alone, operand-at, operand-pair, operands-both}
 use Rattle.name_inside.specs.heights.High.{ListHigh, OperandsHigh, OptionalHigh, QueryHigh, SelectHigh, SubsHigh}
 

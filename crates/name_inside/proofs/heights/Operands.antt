@@ -4,15 +4,14 @@ use Rattle.std.proofs.Common.{ap, arith, get_or, refl, subst, sym, ◌∙◌}
 use Rattle.bag_algebra.specs.built.Measures.{subs_height}
 use Rattle.bag_algebra.specs.declared.expr.Expr.{Expr}
 use Rattle.bag_algebra.specs.declared.query.Sublink.{Sublink}
-use Rattle.contribution.proofs.Added.{one_more}
 use Rattle.perm_values.specs.declared.kind.Kind.{Kind}
+use Rattle.perm_values.proofs.Lists.{front-none, back-none, taken}
 use Rattle.name_meaning.specs.Items.{SelectMeant, made_items, width_of_item}
 use Rattle.name_meaning.specs.Meanings.{Before, Part, Surroundings, means_at, settled}
 use Rattle.name_meaning.specs.Operands.{Operand, alike_wanted, behind, first_unfit, made_parts, node, operand, parts_breaks, unfit_break, united, wanted_of}
 use Rattle.name_meaning.specs.declared.answer.Break.{Break}
 use Rattle.name_meaning.specs.declared.need.Gives.{Gives}
 use Rattle.name_meaning.specs.declared.need.Need.{Need}
-use Rattle.name_meaning.proofs.Every.{front-none, back-none}
 use Rattle.name_seen_cores.proofs.Forms.{mapped-behind, flat-behind}
 use Rattle.name_inside.specs.heights.High.{ListHigh, OperandsHigh, SelectHigh, SubsHigh}
 
@@ -94,13 +93,13 @@ node-high h gives assembled os high none wanted before =
 pub mapped-high : {X Y : Type 0} (g : Y → Operand) (p : X → Y) (xs : List X) (i : ℕ) (x : X) (a b : ℕ) → i < length xs → x ≡ get_or xs i x
     → OperandsHigh a (map g (map p (take i xs))) → OperandsHigh b (g (p x) ∷ []) → OperandsHigh (max a b) (map g (map p (take (i + 1) xs)))
 mapped-high g p xs i x a b within is so_far one =
-    subst (OperandsHigh (max a b)) (sym (ap (λ (ys : List _). map g (map p ys)) (one_more xs i x within is) ∙ mapped-behind g p (take i xs) x))
+    subst (OperandsHigh (max a b)) (sym (ap (λ (ys : List _). map g (map p ys)) (taken xs i x within is) ∙ mapped-behind g p (take i xs) x))
     (operands-both a b (map g (map p (take i xs))) (g (p x) ∷ []) so_far one)
 
 pub flat-high : {X Y : Type 0} (g : Y → List Operand) (p : X → Y) (xs : List X) (i : ℕ) (x : X) (a b : ℕ) → i < length xs → x ≡ get_or xs i x
     → OperandsHigh a (flat_map g (map p (take i xs))) → OperandsHigh b (g (p x)) → OperandsHigh (max a b) (flat_map g (map p (take (i + 1) xs)))
 flat-high g p xs i x a b within is so_far one =
-    subst (OperandsHigh (max a b)) (sym (ap (λ (ys : List _). flat_map g (map p ys)) (one_more xs i x within is) ∙ flat-behind g p (take i xs) x))
+    subst (OperandsHigh (max a b)) (sym (ap (λ (ys : List _). flat_map g (map p ys)) (taken xs i x within is) ∙ flat-behind g p (take i xs) x))
     (operands-both a b (flat_map g (map p (take i xs))) (g (p x)) so_far one)
 
 -- ---- the items of a list
@@ -144,5 +143,5 @@ list-more a b ms last so_far one none w n =
 pub listed-high : {X Y : Type 0} (g : Y → SelectMeant) (p : X → Y) (xs : List X) (i : ℕ) (x : X) (a b : ℕ) → i < length xs → x ≡ get_or xs i x
     → ListHigh a (map g (map p (take i xs))) → SelectHigh b (g (p x)) → ListHigh (max a b) (map g (map p (take (i + 1) xs)))
 listed-high g p xs i x a b within is so_far one =
-    subst (ListHigh (max a b)) (sym (ap (λ (ys : List _). map g (map p ys)) (one_more xs i x within is) ∙ mapped-behind g p (take i xs) x))
+    subst (ListHigh (max a b)) (sym (ap (λ (ys : List _). map g (map p ys)) (taken xs i x within is) ∙ mapped-behind g p (take i xs) x))
     (list-more a b (map g (map p (take i xs))) (g (p x)) so_far one)

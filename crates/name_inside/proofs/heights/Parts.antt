@@ -10,6 +10,7 @@ use Rattle.bag_algebra.specs.declared.query.JoinKind.TheVariants as join
 use Rattle.perm_catalog.specs.Contents.{Contents}
 use Rattle.perm_catalog.specs.Sound.{IsSound}
 use Rattle.perm_values.specs.declared.kind.Kind.{Kind}
+use Rattle.perm_values.proofs.Lists.{front-none, back-none, map-taken}
 use Rattle.sql_tree.specs.Regular.{is_lateral}
 use Rattle.sql_tree.specs.declared.name.ColRef.{ColRef}
 use Rattle.sql_tree.specs.declared.query.Core.{Core, out-Core}
@@ -23,22 +24,23 @@ use Rattle.sql_tree.specs.declared.source.FromSource.TheVariants as source
 use Rattle.sql_tree.specs.declared.source.FromTree.{FromTree}
 use Rattle.sql_tree.specs.declared.source.JoinStep.{JoinStep, out-JoinStep}
 use Rattle.sql_tree.specs.declared.source.ScopeMark.{ScopeMark}
+use Rattle.contribution.specs.Conjunctions.{always}
 use Rattle.name_meaning.proofs.Equations.{token, fromsource-inner}
 use Rattle.name_meaning.proofs.Opened.{core-is, opened_from_item}
 use Rattle.name_meaning.specs.Cores.{BodyPart, Clauses, before_list, clause_breaks, core_clauses, core_over, core_seen, core_unlooked, group_break, group_scope, has_some, list_columns, optional_built, settle_known, word_breaks}
-use Rattle.name_meaning.specs.Froms.{FromItemPart, FromMeant, FromPart, ItemMeant, JoinPart, SourcePart, applied, beside_from, both_known, first_item, from_all, in_clause, in_from, in_on, item_meant, join_all, join_item, join_kind, joined_item, label_of, names_of, on_built, on_meant, optional_breaks, optional_meant, read_names, read_of, read_query, scope_items, scope_name, settled_columns, yes}
+use Rattle.name_meaning.specs.Froms.{FromItemPart, FromMeant, FromPart, ItemMeant, JoinPart, SourcePart, applied, beside_from, both_known, first_item, from_all, in_clause, in_from, in_on, item_meant, join_all, join_item, join_kind, joined_item, label_of, names_of, on_built, on_meant, optional_breaks, optional_meant, read_names, read_of, read_query, scope_items, scope_name, settled_columns}
 use Rattle.name_meaning.specs.Items.{SelectPart, items_breaks, made_items}
 use Rattle.name_meaning.specs.Meanings.{Around, Meant, OutColumn, Part, QueryMeant, is_whole, query_means_at}
 use Rattle.name_meaning.specs.Queries.{SetStepPart, asks_provenance, columns_so_far, keys_breaks, keys_of, limited, may_not_ask, operand_breaks, plain_query, query_seen, query_with_provenance, set_chain, set_joined}
 use Rattle.name_meaning.specs.Scopes.{KnownColumn, ScopeItem, scope_of}
 use Rattle.name_meaning.specs.Trees.{core_of, from_item_of, from_of, item_of, join_of, part_of, query_of, set_of_tree, set_step_of, source_of}
 use Rattle.name_meaning.specs.declared.scope.Scope.{Scope}
-use Rattle.name_meaning.proofs.Every.{back-none, front-none, none-whole, whole-none}
+use Rattle.name_meaning.proofs.Every.{none-whole, whole-none}
+use Rattle.name_meaning.proofs.Joins.{joins-behind}
 use Rattle.name_meaning.proofs.Lateral.{join-lateral, join-plain, lateral_item, plain_item, plainly}
 use Rattle.name_meaning.proofs.Trees.{item-known}
 use Rattle.name_meaning.specs.laws.Known.{ItemIsKnown}
-use Rattle.name_made_parts.proofs.AskedListing.{mapped}
-use Rattle.name_made_parts.proofs.Sourcing.{join-fields, joins-append}
+use Rattle.name_made_parts.proofs.Sourcing.{join-fields}
 use Rattle.name_made_parts.specs.Cored.{items_meant}
 use Rattle.name_seen_cores.proofs.Opened.{chain-means, paren-means, query-means, set-is, step-operand}
 use Rattle.name_seen_cores.proofs.Queried.{chain-behind}
@@ -101,7 +103,7 @@ pub chain-high : (c : Contents) (around : Around) (left : QueryMeant) (steps : L
 chain-high c around left steps i step n a b within is bound so_far one =
     let before = set_chain around left (map (set_step_of c) (take i steps)) in
     let part = set_step_of c step in
-    subst (QueryHigh n) (sym (ap (set_chain around left) (mapped (set_step_of c) steps i step within is)
+    subst (QueryHigh n) (sym (ap (set_chain around left) (map-taken (set_step_of c) steps i step within is)
     ∙ chain-behind around left (map (set_step_of c) (take i steps)) part))
     (joined-high n a b before part (part.operand.means (may_not_ask around)) bound so_far
     (subst (λ (body : BodyPart). QueryHigh b (body.means (may_not_ask around))) (sym (step-operand c step)) one))
@@ -302,8 +304,8 @@ pub joins-high : (c : Contents) (outer : List Scope) (left : FromMeant) (joins :
     (joined_item outer (join_all outer left (map (join_of c) (take i joins))) (join_of c step)))
     → FromHigh n (join_all outer left (map (join_of c) (take (i + 1) joins)))
 joins-high c outer left joins i step n within is high =
-    subst (FromHigh n) (sym (ap (join_all outer left) (mapped (join_of c) joins i step within is)
-    ∙ joins-append outer left (map (join_of c) (take i joins)) (join_of c step))) high
+    subst (FromHigh n) (sym (ap (join_all outer left) (map-taken (join_of c) joins i step within is)
+    ∙ joins-behind outer left (map (join_of c) (take i joins)) (join_of c step))) high
 
 -- ---- sources
 
@@ -314,7 +316,7 @@ beside-high n a b left right within one two none =
     record {
       items = first.items ++ second.items;
       known = λ i. both_known (first.known i) (second.known i);
-      high = omega (arith, within, first.high, second.high, height-Join join.Inner left.query right.query yes []);
+      high = omega (arith, within, first.high, second.high, height-Join join.Inner left.query right.query always []);
     }
 
 less-high : (n b : ℕ) (m : FromMeant) → n ≤ b → FromHigh b m → FromHigh n m
@@ -339,7 +341,7 @@ pub sources-high : (c : Contents) (outer : List Scope) (sources : List FromTree)
 sources-high c outer sources i source n a b within is alone bound left right =
     let parts = map (from_of c) (take i sources) in
     let counted : length parts ≡ i = omega (arith, within, length-map (take i sources) (from_of c), length-take i sources) in
-    subst (λ (all : List FromPart). FromHigh n (from_all outer all)) (sym (mapped (from_of c) sources i source within is))
+    subst (λ (all : List FromPart). FromHigh n (from_all outer all)) (sym (map-taken (from_of c) sources i source within is))
     (more-high outer parts (from_of c source) i n a b counted alone bound left right)
 
 pub no-sources : (outer : List Scope) → FromHigh 0 (from_all outer [])

@@ -19,11 +19,10 @@ use Rattle.name_seen_parts.specs.Standing.{surroundings, around_beside, around_o
 use Rattle.sql_tree.specs.Regular.{is_lateral}
 use Rattle.sql_tree.specs.declared.query.Core.{the_lemmas}
 use Rattle.name_made_nodes.specs.Makes.{IsBuilt, Links, Makes, MakesArms, MakesMore, MakesSteps, before_of, with_sub, MakesQuery}
-use Rattle.name_made_nodes.proofs.Arms.{behind-others, next-arm-made, next-step-made, of-ok, operand-one}
+use Rattle.name_made_nodes.proofs.Arms.{behind-others, next-arm-made, next-step-made, operand-one}
 use Rattle.name_made_nodes.proofs.FormsMade.{aggregate-form, arm-is, between-form, case-else-form, case-form, chain-form, coalesce-form, column-form, compared-form, count-form, distinct-form, exists-form, in-list-form, in-query-form, integer-form, like-form, logic-form, nots-form, null-form, null-of-form, null-test-form, nullif-form, paren-form, quantified-form, scalar-form, signs-form, step-is, text-form, told, truth-form, truth-test-form}
 use Rattle.name_made_nodes.proofs.Linking.{aggregated-made, tested-made, untested-made}
 use Rattle.name_made_nodes.proofs.Parts.{more-more, node-made}
-use Rattle.name_made_parts.proofs.AskedListing.{mapped}
 use Rattle.bag_algebra.specs.declared.query.Query.TheVariants.{Prov}
 use Rattle.name_meaning.specs.Queries.{limited, may_not_ask}
 use Rattle.name_made_parts.proofs.Coring.{core-none, core-some, clauses-made, item-so, none-kept, some-kept, star-is, table-star-is, value-is}
@@ -31,6 +30,8 @@ use Rattle.name_made_parts.proofs.Querying.{chain-made, chain-of-one, core-is, p
 use Rattle.null_logic.specs.declared.operator.Operator.TheVariants as x
 use Rattle.perm_values.specs.declared.kind.Kind.TheVariants as kind
 use Rattle.perm_values.specs.declared.value.Value.TheVariants as v
+use Rattle.perm_values.proofs.Lists.{map-taken}
+use Rattle.perm_values.proofs.Results.{where_made}
 use Rattle.name_meaning.specs.Cores.{group_scope}
 use Rattle.name_meaning.specs.Froms.{first_item, in_clause, in_from, join_all, optional_meant, FromMeant, FromPart}
 use Rattle.name_meaning.specs.declared.scope.Scope.{Scope}
@@ -43,8 +44,9 @@ use Rattle.name_made_nodes.specs.Cored.{clauses_over}
 use Rattle.name_made_nodes.proofs.ItemLists.{value-listed}
 use Rattle.name_made_parts.specs.Cored.{Keeps, MakesClauses, MakesList, having_part, kept_of, select_parts, sources_meant}
 use Rattle.name_made_parts.specs.Sources.{JoinsMade, MakesSource, SourcesMade, join_count}
-use Rattle.name_made_parts.proofs.Sourcing.{first-made, from-fields, item-inner, item-named, no-sources, own-stands, source-more, sources-made}
+use Rattle.name_made_parts.proofs.Sourcing.{first-made, item-inner, item-named, no-sources, own-stands, source-more, sources-made}
 use Rattle.bag_algebra.specs.declared.query.Query.{Query}
+use Rattle.name_seen.proofs.FromTrees.{from-means}
 use Rattle.name_made.proofs.Chaining.{ChainMade, chain-step}
 use Rattle.name_made.proofs.Standing.{from-count, items-more, of-on, step-more, tree-join, tree-lateral}
 use Rattle.name_made.proofs.OfResults.{from-one, of-beside, of-both, of-both-is, of-one, of-one-is, of-three-is}
@@ -78,7 +80,7 @@ expressions::made-returns-in-Column t c =
 
 pub expressions::made-returns-in-Paren : goal.expressions::made-returns-in-Paren
 expressions::made-returns-in-Paren t c =
-    of-ok (λ e. Makes c.args.here.now.standing.sublinks (means_at (part_of c.args.here.now.catalog.now c.in-Paren.part) (surroundings c.args.here.now)) c.args.wanted e c.args.found.now c.made.new.found) (λ e. Makes c.args.here.now.standing.sublinks (means_at (part_of c.args.here.now.catalog.now c.args.tree.now) (surroundings c.args.here.now)) c.args.wanted e c.args.found.now c.made.new.found) c.made.result
+    where_made (λ e. Makes c.args.here.now.standing.sublinks (means_at (part_of c.args.here.now.catalog.now c.in-Paren.part) (surroundings c.args.here.now)) c.args.wanted e c.args.found.now c.made.new.found) (λ e. Makes c.args.here.now.standing.sublinks (means_at (part_of c.args.here.now.catalog.now c.args.tree.now) (surroundings c.args.here.now)) c.args.wanted e c.args.found.now c.made.new.found) c.made.result
     (λ e makes. paren-form c.args.here.now.catalog.now (surroundings c.args.here.now) c.args.here.now.standing.sublinks c.args.tree.now c.in-Paren.part c.args.wanted e c.args.found.now c.made.new.found c.in-Paren.is makes) (rw c.get.ensures at c.made.ensures)
 
 pub expressions::made-returns-in-Nots : goal.expressions::made-returns-in-Nots
@@ -93,14 +95,14 @@ expressions::made-returns-in-Signs t c =
 
 pub expressions::made-returns-in-Logic : goal.expressions::made-returns-in-Logic
 expressions::made-returns-in-Logic t c =
-    of-ok (λ e. Makes c.args.here.now.standing.sublinks (node (gives_of c.in-Logic.op false) (Op c.in-Logic.op) (map (operand (surroundings c.args.here.now) (need_of c.in-Logic.op false)) (map (part_of c.args.here.now.catalog.now) c.in-Logic.parts))) c.args.wanted e c.args.found.now c.operator_made.new.found)
+    where_made (λ e. Makes c.args.here.now.standing.sublinks (node (gives_of c.in-Logic.op false) (Op c.in-Logic.op) (map (operand (surroundings c.args.here.now) (need_of c.in-Logic.op false)) (map (part_of c.args.here.now.catalog.now) c.in-Logic.parts))) c.args.wanted e c.args.found.now c.operator_made.new.found)
     (λ e. Makes c.args.here.now.standing.sublinks (means_at (part_of c.args.here.now.catalog.now c.args.tree.now) (surroundings c.args.here.now)) c.args.wanted e c.args.found.now c.operator_made.new.found) c.operator_made.result
     (λ e makes. logic-form c.args.here.now.catalog.now (surroundings c.args.here.now) c.args.here.now.standing.sublinks c.args.tree.now c.in-Logic.parts c.in-Logic.op c.args.wanted e c.args.found.now c.operator_made.new.found c.in-Logic.is makes)
     (rw (c.need_of-need.ensures, c.gives_of-gives.ensures, c.as_slice.ensures) at c.operator_made.ensures)
 
 pub expressions::made-returns-in-Coalesce : goal.expressions::made-returns-in-Coalesce
 expressions::made-returns-in-Coalesce t c =
-    of-ok (λ e. Makes c.args.here.now.standing.sublinks (node Common (Op x.Coalesce) (map (operand (surroundings c.args.here.now) Alike) (map (part_of c.args.here.now.catalog.now) c.in-Coalesce.list))) c.args.wanted e c.args.found.now c.operator_made-in-Coalesce.new.found)
+    where_made (λ e. Makes c.args.here.now.standing.sublinks (node Common (Op x.Coalesce) (map (operand (surroundings c.args.here.now) Alike) (map (part_of c.args.here.now.catalog.now) c.in-Coalesce.list))) c.args.wanted e c.args.found.now c.operator_made-in-Coalesce.new.found)
     (λ e. Makes c.args.here.now.standing.sublinks (means_at (part_of c.args.here.now.catalog.now c.args.tree.now) (surroundings c.args.here.now)) c.args.wanted e c.args.found.now c.operator_made-in-Coalesce.new.found) c.operator_made-in-Coalesce.result
     (λ e makes. coalesce-form c.args.here.now.catalog.now (surroundings c.args.here.now) c.args.here.now.standing.sublinks c.args.tree.now c.in-Coalesce.list c.args.wanted e c.args.found.now c.operator_made-in-Coalesce.new.found c.in-Coalesce.is makes)
     (rw c.as_slice-in-Coalesce.ensures at c.operator_made-in-Coalesce.ensures)
@@ -129,7 +131,7 @@ expressions::operands_made-loop-tree-preserved t c =
     (λ e makes is.
     subst (λ (es : List Expr). MakesMore here.standing.sublinks alike (map (operand (surroundings here) c.args.need) (map (part_of here.catalog.now) (take (c.loop-tree.tree-index + 1) c.args.trees.now))) [] es c.args.found.now c.made-part.new.found) (sym is)
     (subst (λ (os : List Operand). MakesMore here.standing.sublinks alike os [] (c.loop-tree.parts ++ e ∷ []) c.args.found.now c.made-part.new.found)
-    (sym (ap (map (operand (surroundings here) c.args.need)) (mapped (part_of here.catalog.now) c.args.trees.now c.loop-tree.tree-index c.tree-item.result c.loop-tree-test.true c.tree-item.is)
+    (sym (ap (map (operand (surroundings here) c.args.need)) (map-taken (part_of here.catalog.now) c.args.trees.now c.loop-tree.tree-index c.tree-item.result c.loop-tree-test.true c.tree-item.is)
     ∙ map-append (operand (surroundings here) c.args.need) (map (part_of here.catalog.now) (take c.loop-tree.tree-index c.args.trees.now)) (part ∷ [])))
     (more-more here.standing.sublinks alike os (operand (surroundings here) c.args.need part ∷ []) [] c.loop-tree.parts (c.loop-tree.parts ++ e ∷ []) c.args.found.now c.loop-tree.found c.made-part.new.found c.loop-tree.invariant
     (operand-one here.standing.sublinks alike c.args.need part (surroundings here) c.loop-tree.parts e c.loop-tree.found c.made-part.new.found makes))))
@@ -151,7 +153,7 @@ expressions::steps_made-loop-step-preserved t c =
     (λ item made_of all_is. from-one _ _ _ c.made-part.result c.made-part.ensures made_of
     (λ part makes item_is.
     subst (λ (parts : List StepPart). MakesSteps here.standing.sublinks alike (surroundings here) parts c.in_ok-made_steps.made_steps c.args.found.now c.made-part.new.found)
-    (sym (mapped (step_of here.catalog.now) c.args.steps.now c.loop-step.step-index c.step-item.result c.loop-step-test.true c.step-item.is ∙ ap (λ (s : StepPart). steps ++ s ∷ []) (step-is here.catalog.now c.step-item.result)))
+    (sym (map-taken (step_of here.catalog.now) c.args.steps.now c.loop-step.step-index c.step-item.result c.loop-step-test.true c.step-item.is ∙ ap (λ (s : StepPart). steps ++ s ∷ []) (step-is here.catalog.now c.step-item.result)))
     (subst (λ (made : List ChainStep). MakesSteps here.standing.sublinks alike (surroundings here) (steps ++ step ∷ []) made c.args.found.now c.made-part.new.found)
     (sym (all_is ∙ ap (λ (s : ChainStep). c.loop-step.made_steps ++ s ∷ []) item_is))
     (next-step-made here.standing.sublinks alike (surroundings here) steps step c.loop-step.made_steps part c.args.found.now c.loop-step.found c.made-part.new.found (c.loop-step.invariant alike) makes))))
@@ -171,7 +173,7 @@ expressions::arms_made-loop-arm-preserved t c =
     (λ condition tests rest. from-one _ _ _ c.made-value.result c.made-value.ensures rest
     (λ value makes item_is.
     subst (λ (parts : List ArmPart). MakesArms here.standing.sublinks alike (surroundings here) parts c.in_ok-made_arms.made_arms c.args.found.now c.made-value.new.found)
-    (sym (mapped (arm_of here.catalog.now) c.args.arms.now c.loop-arm.arm-index c.arm-item.result c.loop-arm-test.true c.arm-item.is ∙ ap (λ (a : ArmPart). arms ++ a ∷ []) (arm-is here.catalog.now c.arm-item.result)))
+    (sym (map-taken (arm_of here.catalog.now) c.args.arms.now c.loop-arm.arm-index c.arm-item.result c.loop-arm-test.true c.arm-item.is ∙ ap (λ (a : ArmPart). arms ++ a ∷ []) (arm-is here.catalog.now c.arm-item.result)))
     (subst (λ (made : List Arm). MakesArms here.standing.sublinks alike (surroundings here) (arms ++ arm ∷ []) made c.args.found.now c.made-value.new.found)
     (sym (all_is ∙ ap (λ (a : Arm). c.loop-arm.made_arms ++ a ∷ []) item_is))
     (next-arm-made here.standing.sublinks alike (surroundings here) arms arm c.loop-arm.made_arms condition value c.args.found.now c.loop-arm.found c.made-condition.new.found c.made-value.new.found c.loop-arm.invariant tests makes)))))
@@ -201,14 +203,14 @@ expressions::tested_made-returns t c =
 
 pub expressions::made-returns-in-Exists : goal.expressions::made-returns-in-Exists
 expressions::made-returns-in-Exists t c =
-    of-ok (λ e. (at query_at : ℕ) (wanted : Kind) → Makes c.args.here.now.standing.sublinks (if_standing (surroundings c.args.here.now) at (Some kind.Boolean) (exists_meant (surroundings c.args.here.now) query_at (query_means_at (query_of c.args.here.now.catalog.now c.in-Exists.query) (around_of (surroundings c.args.here.now))))) wanted e c.args.found.now c.exists_made.new.found)
+    where_made (λ e. (at query_at : ℕ) (wanted : Kind) → Makes c.args.here.now.standing.sublinks (if_standing (surroundings c.args.here.now) at (Some kind.Boolean) (exists_meant (surroundings c.args.here.now) query_at (query_means_at (query_of c.args.here.now.catalog.now c.in-Exists.query) (around_of (surroundings c.args.here.now))))) wanted e c.args.found.now c.exists_made.new.found)
     (λ e. Makes c.args.here.now.standing.sublinks (means_at (part_of c.args.here.now.catalog.now c.args.tree.now) (surroundings c.args.here.now)) c.args.wanted e c.args.found.now c.exists_made.new.found) c.exists_made.result
     (λ e makes. exists-form c.args.here.now.catalog.now (surroundings c.args.here.now) c.args.here.now.standing.sublinks c.args.tree.now c.in-Exists.query c.args.wanted e c.args.found.now c.exists_made.new.found c.in-Exists.is (λ at query_at. makes at query_at c.args.wanted))
     (rw c.get-in-Exists.ensures at c.exists_made.ensures)
 
 pub expressions::made-returns-in-Scalar : goal.expressions::made-returns-in-Scalar
 expressions::made-returns-in-Scalar t c =
-    of-ok (λ e. (at query_at : ℕ) → Makes c.args.here.now.standing.sublinks (if_standing (surroundings c.args.here.now) at None (scalar_meant (surroundings c.args.here.now) query_at (query_means_at (query_of c.args.here.now.catalog.now c.in-Scalar.query) (around_of (surroundings c.args.here.now))))) c.args.wanted e c.args.found.now c.scalar_made.new.found)
+    where_made (λ e. (at query_at : ℕ) → Makes c.args.here.now.standing.sublinks (if_standing (surroundings c.args.here.now) at None (scalar_meant (surroundings c.args.here.now) query_at (query_means_at (query_of c.args.here.now.catalog.now c.in-Scalar.query) (around_of (surroundings c.args.here.now))))) c.args.wanted e c.args.found.now c.scalar_made.new.found)
     (λ e. Makes c.args.here.now.standing.sublinks (means_at (part_of c.args.here.now.catalog.now c.args.tree.now) (surroundings c.args.here.now)) c.args.wanted e c.args.found.now c.scalar_made.new.found) c.scalar_made.result
     (λ e makes. scalar-form c.args.here.now.catalog.now (surroundings c.args.here.now) c.args.here.now.standing.sublinks c.args.tree.now c.in-Scalar.query c.args.wanted e c.args.found.now c.scalar_made.new.found c.in-Scalar.is makes)
     (rw c.get-in-Scalar.ensures at c.scalar_made.ensures)
@@ -278,13 +280,13 @@ expressions::made-returns-in_ok-alike-in-Some t c =
 
 pub expressions::made-returns-in-None-argument : goal.expressions::made-returns-in-None-argument
 expressions::made-returns-in-None-argument t c =
-    of-ok (λ e. (may_link : Bool) (at : ℕ) (wanted : Kind) → Makes may_link (rows_counted (surroundings c.args.here.now) at c.in-Aggregate.function) wanted e c.args.found.now c.count_made.new.found) (λ e. Makes c.args.here.now.standing.sublinks (means_at (part_of c.args.here.now.catalog.now c.args.tree.now) (surroundings c.args.here.now)) c.args.wanted e c.args.found.now c.count_made.new.found) c.count_made.result
+    where_made (λ e. (may_link : Bool) (at : ℕ) (wanted : Kind) → Makes may_link (rows_counted (surroundings c.args.here.now) at c.in-Aggregate.function) wanted e c.args.found.now c.count_made.new.found) (λ e. Makes c.args.here.now.standing.sublinks (means_at (part_of c.args.here.now.catalog.now c.args.tree.now) (surroundings c.args.here.now)) c.args.wanted e c.args.found.now c.count_made.new.found) c.count_made.result
     (λ e makes. count-form c.args.here.now.catalog.now (surroundings c.args.here.now) c.args.here.now.standing.sublinks c.args.tree.now c.in-Aggregate.function c.args.wanted e c.args.found.now c.count_made.new.found (rw c.in-None-argument.is at c.in-Aggregate.is) (makes c.args.here.now.standing.sublinks c.args.tree.now.at c.args.wanted))
     (c.count_made.ensures (surroundings c.args.here.now) (sym c.group_count.ensures.value))
 
 pub expressions::made-returns-in-Some-argument : goal.expressions::made-returns-in-Some-argument
 expressions::made-returns-in-Some-argument t c =
-    of-ok (λ e. (at argument_at : ℕ) (wanted : Kind) → Makes c.args.here.now.standing.sublinks (aggregated (surroundings c.args.here.now) at c.in-Aggregate.function argument_at (means_at (part_of c.args.here.now.catalog.now c.in-Some-argument.argument) (in_argument (surroundings c.args.here.now)))) wanted e c.args.found.now c.aggregated.new.found) (λ e. Makes c.args.here.now.standing.sublinks (means_at (part_of c.args.here.now.catalog.now c.args.tree.now) (surroundings c.args.here.now)) c.args.wanted e c.args.found.now c.aggregated.new.found) c.aggregated.result
+    where_made (λ e. (at argument_at : ℕ) (wanted : Kind) → Makes c.args.here.now.standing.sublinks (aggregated (surroundings c.args.here.now) at c.in-Aggregate.function argument_at (means_at (part_of c.args.here.now.catalog.now c.in-Some-argument.argument) (in_argument (surroundings c.args.here.now)))) wanted e c.args.found.now c.aggregated.new.found) (λ e. Makes c.args.here.now.standing.sublinks (means_at (part_of c.args.here.now.catalog.now c.args.tree.now) (surroundings c.args.here.now)) c.args.wanted e c.args.found.now c.aggregated.new.found) c.aggregated.result
     (λ e makes. aggregate-form c.args.here.now.catalog.now (surroundings c.args.here.now) c.args.here.now.standing.sublinks c.args.tree.now c.in-Some-argument.argument c.in-Aggregate.function c.args.wanted e c.args.found.now c.aggregated.new.found (rw c.in-Some-argument.is at c.in-Aggregate.is) (λ at argument_at. makes at argument_at c.args.wanted))
     (rw c.get-in-Some-argument.ensures at c.aggregated.ensures)
 
@@ -295,7 +297,7 @@ expressions::made-returns-then-not-here t c =
 
 pub expressions::made-returns-in_ok-tested-in-InQuery : goal.expressions::made-returns-in_ok-tested-in-InQuery
 expressions::made-returns-in_ok-tested-in-InQuery t c =
-    of-ok (λ e. Links (in_kind c.in-InQuery.negated (cond c.in-InQuery.negated NotEqual Equal)) (Some c.in_ok-tested-in-InQuery.tested) (query_means_at (query_of c.args.here.now.catalog.now c.in-InQuery.query) (around_of (surroundings c.args.here.now))) (c.in_ok-kind-in-InQuery.kind ∷ []) e _ c.linked.new.found) (λ e. Makes c.args.here.now.standing.sublinks (means_at (part_of c.args.here.now.catalog.now c.args.tree.now) (surroundings c.args.here.now)) c.args.wanted e c.args.found.now c.linked.new.found) c.linked.result
+    where_made (λ e. Links (in_kind c.in-InQuery.negated (cond c.in-InQuery.negated NotEqual Equal)) (Some c.in_ok-tested-in-InQuery.tested) (query_means_at (query_of c.args.here.now.catalog.now c.in-InQuery.query) (around_of (surroundings c.args.here.now))) (c.in_ok-kind-in-InQuery.kind ∷ []) e _ c.linked.new.found) (λ e. Makes c.args.here.now.standing.sublinks (means_at (part_of c.args.here.now.catalog.now c.args.tree.now) (surroundings c.args.here.now)) c.args.wanted e c.args.found.now c.linked.new.found) c.linked.result
     (λ e links. in-query-form c.args.here.now.catalog.now (surroundings c.args.here.now) c.args.here.now.standing.sublinks c.args.tree.now c.in-InQuery.part c.in-InQuery.query c.in-InQuery.negated c.args.wanted e c.args.found.now c.linked.new.found c.in-InQuery.is
     (tested-made (surroundings c.args.here.now) c.args.tree.now.at (in_kind c.in-InQuery.negated (cond c.in-InQuery.negated NotEqual Equal)) (part_of c.args.here.now.catalog.now c.in-InQuery.part) (query_of c.args.here.now.catalog.now c.in-InQuery.query) c.in_ok-kind-in-InQuery.kind c.args.wanted e c.in_ok-tested-in-InQuery.tested c.args.found.now _ c.linked.new.found c.if-not-here.false
     (rw (c.get-part-in-InQuery.ensures, c.get-query.ensures) at c.in_ok-kind-in-InQuery.ensures) (rw c.get-part-in-InQuery.ensures at c.in_ok-tested-in-InQuery.ensures) links))
@@ -308,7 +310,7 @@ expressions::made-returns-then-not-here-2 t c =
 
 pub expressions::made-returns-in_ok-tested-in-Quantified : goal.expressions::made-returns-in_ok-tested-in-Quantified
 expressions::made-returns-in_ok-tested-in-Quantified t c =
-    of-ok (λ e. Links (in_kind c.in-Quantified.every c.in-Quantified.op) (Some c.in_ok-tested-in-Quantified.tested) (query_means_at (query_of c.args.here.now.catalog.now c.in-Quantified.query) (around_of (surroundings c.args.here.now))) (c.in_ok-kind-in-Quantified.kind ∷ []) e _ c.linked-in-Quantified.new.found) (λ e. Makes c.args.here.now.standing.sublinks (means_at (part_of c.args.here.now.catalog.now c.args.tree.now) (surroundings c.args.here.now)) c.args.wanted e c.args.found.now c.linked-in-Quantified.new.found) c.linked-in-Quantified.result
+    where_made (λ e. Links (in_kind c.in-Quantified.every c.in-Quantified.op) (Some c.in_ok-tested-in-Quantified.tested) (query_means_at (query_of c.args.here.now.catalog.now c.in-Quantified.query) (around_of (surroundings c.args.here.now))) (c.in_ok-kind-in-Quantified.kind ∷ []) e _ c.linked-in-Quantified.new.found) (λ e. Makes c.args.here.now.standing.sublinks (means_at (part_of c.args.here.now.catalog.now c.args.tree.now) (surroundings c.args.here.now)) c.args.wanted e c.args.found.now c.linked-in-Quantified.new.found) c.linked-in-Quantified.result
     (λ e links. quantified-form c.args.here.now.catalog.now (surroundings c.args.here.now) c.args.here.now.standing.sublinks c.args.tree.now c.in-Quantified.part c.in-Quantified.query c.in-Quantified.every c.in-Quantified.op c.args.wanted e c.args.found.now c.linked-in-Quantified.new.found c.in-Quantified.is
     (tested-made (surroundings c.args.here.now) c.args.tree.now.at (in_kind c.in-Quantified.every c.in-Quantified.op) (part_of c.args.here.now.catalog.now c.in-Quantified.part) (query_of c.args.here.now.catalog.now c.in-Quantified.query) c.in_ok-kind-in-Quantified.kind c.args.wanted e c.in_ok-tested-in-Quantified.tested c.args.found.now _ c.linked-in-Quantified.new.found c.if-not-here-2.false
     (rw (c.get-part-in-Quantified.ensures, c.get-query-in-Quantified.ensures) at c.in_ok-kind-in-Quantified.ensures) (rw c.get-part-in-Quantified.ensures at c.in_ok-tested-in-Quantified.ensures) links))
@@ -322,12 +324,12 @@ queries::query_made-returns t c =
 
 pub queries::set_made-returns-in-Core : goal.queries::set_made-returns-in-Core
 queries::set_made-returns-in-Core t c =
-    of-ok (MakesQuery ((core_of c.args.around.now.catalog.now c.in-Core.core).means (standing_of c.args.around.now)) c.args.wanted.now) (MakesQuery ((set_of_tree c.args.around.now.catalog.now c.args.tree.now).means (standing_of c.args.around.now)) c.args.wanted.now) c.core_made.result
+    where_made (MakesQuery ((core_of c.args.around.now.catalog.now c.in-Core.core).means (standing_of c.args.around.now)) c.args.wanted.now) (MakesQuery ((set_of_tree c.args.around.now.catalog.now c.args.tree.now).means (standing_of c.args.around.now)) c.args.wanted.now) c.core_made.result
     (λ q makes. core-is c.args.around.now.catalog.now (standing_of c.args.around.now) c.args.tree.now c.in-Core.core c.args.wanted.now q c.in-Core.is makes) (rw c.get.ensures at c.core_made.ensures)
 
 pub queries::set_made-returns-in-Paren : goal.queries::set_made-returns-in-Paren
 queries::set_made-returns-in-Paren t c =
-    of-ok (MakesQuery (query_means_at (query_of c.args.around.now.catalog.now c.in-Paren.query) (may_not_ask (standing_of c.args.around.now))) c.args.wanted.now) (MakesQuery ((set_of_tree c.args.around.now.catalog.now c.args.tree.now).means (standing_of c.args.around.now)) c.args.wanted.now) c.query_made.result
+    where_made (MakesQuery (query_means_at (query_of c.args.around.now.catalog.now c.in-Paren.query) (may_not_ask (standing_of c.args.around.now))) c.args.wanted.now) (MakesQuery ((set_of_tree c.args.around.now.catalog.now c.args.tree.now).means (standing_of c.args.around.now)) c.args.wanted.now) c.query_made.result
     (λ q makes. paren-is c.args.around.now.catalog.now (standing_of c.args.around.now) c.args.tree.now c.in-Paren.query c.args.wanted.now q c.in-Paren.is makes) (rw c.get-in-Paren.ensures at c.query_made.ensures)
 
 pub queries::set_made-returns-in-Ok : goal.queries::set_made-returns-in-Ok
@@ -342,7 +344,7 @@ queries::set_made-returns-in-Ok t c =
     subst (λ (ks : List Kind). MakesQuery ((set_of_tree held first).means around) ks whole) c.as_slice.ensures (rw c.get-before.ensures at c.in-Ok.ensures) in
     let of_steps = subst (λ (taken : List SetStep). IfOk c.chained-whole.result (ChainMade held around taken c.as_slice-in-Chain-2.result.now whole)) c.as_slice-in-Chain.ensures c.chained-whole.ensures in
     let of_kinds = subst (λ (ks : List Kind). IfOk c.chained-whole.result (ChainMade held around steps ks whole)) c.as_slice-in-Chain-2.ensures of_steps in
-    of-ok (ChainMade held around steps kinds whole) (MakesQuery ((set_of_tree held c.args.tree.now).means around) c.args.wanted.now) c.chained-whole.result
+    where_made (ChainMade held around steps kinds whole) (MakesQuery ((set_of_tree held c.args.tree.now).means around) c.args.wanted.now) c.chained-whole.result
     (λ q makes. chain-made held around c.args.tree.now first steps c.args.wanted.now kinds q c.in-Chain.is
     (λ none. let never : false ≡ true = sym c.if-is_empty.false ∙ c.is_empty.ensures.1 none in absurd (cc)) c.in_ok-kinds-in-Chain.ensures
     (makes ((set_of_tree held first).means around) of_first)) of_kinds
@@ -353,7 +355,7 @@ cores::core_made-returns-in-None t c =
 
 pub cores::core_made-returns-in-Some : goal.cores::core_made-returns-in-Some
 cores::core_made-returns-in-Some t c =
-    of-ok _ (MakesQuery ((core_of c.args.around.now.catalog.now c.args.core.now).means (standing_of c.args.around.now)) c.args.wanted.now) c.over_items.result
+    where_made _ (MakesQuery ((core_of c.args.around.now.catalog.now c.args.core.now).means (standing_of c.args.around.now)) c.args.wanted.now) c.over_items.result
     (λ q makes. core-some c.args.around.now.catalog.now (standing_of c.args.around.now) c.args.core.now c.in-Some.own c.args.wanted.now q (rw (c.as_slice.ensures, c.in-Some.is) at c.in_ok-scope_or_none.ensures) (makes (rw (c.as_slice.ensures, c.in-Some.is) at c.in_ok-scope_or_none.ensures))) c.over_items.ensures
 
 pub queries::chained-loop-step-preserved : goal.queries::chained-loop-step-preserved
@@ -474,7 +476,7 @@ sources::sources_made-loop-source-preserved t c =
     from-one _ _ _ c.source_made-next.result c.source_made-next.ensures c.in_ok-with_next.ensures
     (λ next makes is. rw c.in-Ok.ensures.next
     (subst (λ (parts : List FromPart). SourcesMade outer parts c.args.scope.now (Some c.in_ok-with_next.field-0) (c.loop-source.first + suc (join_count tree)))
-    (sym (mapped part c.args.sources.now c.loop-source.source-index tree c.loop-source-test.true c.source-item.is))
+    (sym (map-taken part c.args.sources.now c.loop-source.source-index tree c.loop-source-test.true c.source-item.is))
     (source-more outer (map part (take c.loop-source.source-index c.args.sources.now)) (part tree) c.args.scope.now c.loop-source.whole next c.in_ok-with_next.field-0 c.loop-source.first (join_count tree)
     c.loop-source.invariant makes (from-count around.catalog.now tree outer) is)))
 
@@ -509,7 +511,7 @@ pub sources::beside_made-returns : goal.sources::beside_made-returns
 sources::beside_made-returns t c =
     let around = c.args.around.now in
     let outer = scopes_of around.outer.now in
-    of-ok _ _ c.seeing_made-made.result
+    where_made _ _ c.seeing_made-made.result
     (λ made makes items stands counted earlier.
     subst (λ (own : Scope). MakesSource ((from_item_of around.catalog.now c.args.item.now).means (around_beside (own ∷ outer)) earlier) made)
     (c.in_ok-own.ensures items stands counted) (makes earlier))
@@ -524,7 +526,7 @@ sources::on_made-returns t c =
     let outer = scopes_of around.outer.now in
     let condition = option_map (part_of around.catalog.now) c.args.condition.now in
     let one = (rw c.in-Some.is at c.checked_add.ensures).1 in
-    of-ok _ _ c.condition_made-kept.result
+    where_made _ _ c.condition_made-kept.result
     (λ kept keeps items stands counted.
     subst (λ (own : Scope). Keeps (optional_meant (in_clause (here_only true own) outer false) condition) kept)
     (c.in_ok-own.ensures items stands (omega (arith, counted, one))) keeps)
@@ -533,7 +535,7 @@ sources::on_made-returns t c =
 pub sources::item_made-returns-in-Named : goal.sources::item_made-returns-in-Named
 sources::item_made-returns-in-Named t c =
     let around = c.args.around.now in
-    of-ok _ _ c.named_item.result
+    where_made _ _ c.named_item.result
     (λ made is. item-named around.catalog.now (standing_of around) c.args.item.now c.in-Named.name made c.in-Named.is is) c.named_item.ensures
 
 pub sources::item_made-returns-in_ok-shown-in-Inner : goal.sources::item_made-returns-in_ok-shown-in-Inner
@@ -562,7 +564,7 @@ sources::source_made-returns t c = λ earlier whole stands.
     let all = rw c.as_slice-step-items.ensures at c.loop-place-test.false in
     let made = subst (λ (m : FromMeant). JoinsMade m c.args.first c.args.scope.now c.loop-place.whole c.loop-place.place)
     (ap (λ (steps : List JoinStep). join_all outer (first_item earlier first) (map (join_of around.catalog.now) steps)) (take_all c.loop-place.place (out-FromTree tree).joins all)
-    ∙ sym (from-fields around.catalog.now tree outer earlier)) (c.loop-place.invariant earlier) in
+    ∙ sym (from-means around.catalog.now tree outer earlier)) (c.loop-place.invariant earlier) in
     made.makes whole stands
 
 pub cores::condition_made-returns-in-None : goal.cores::condition_made-returns-in-None
@@ -577,5 +579,5 @@ pub queries::set_made-returns-then-is_empty : goal.queries::set_made-returns-the
 queries::set_made-returns-then-is_empty t c =
     let held = c.args.around.now.catalog.now in
     let around = standing_of c.args.around.now in
-    of-ok (MakesQuery ((set_of_tree held c.in-Chain.first).means around) c.args.wanted.now) (MakesQuery ((set_of_tree held c.args.tree.now).means around) c.args.wanted.now) c.set_made.result
+    where_made (MakesQuery ((set_of_tree held c.in-Chain.first).means around) c.args.wanted.now) (MakesQuery ((set_of_tree held c.args.tree.now).means around) c.args.wanted.now) c.set_made.result
     (λ q makes. chain-of-one held around c.args.tree.now c.in-Chain.first c.in-Chain.steps c.args.wanted.now q c.in-Chain.is (c.is_empty.ensures.0 c.if-is_empty.true) makes) (rw c.get-before.ensures at c.set_made.ensures)

@@ -8,14 +8,13 @@ ghost use Rattle.name_meaning.specs.Sublinks.{around_of, first_kind, in_tested, 
 ghost use Rattle.name_meaning.specs.Trees.{arm_of, part_of, query_of};
 ghost use Rattle.name_meaning.specs.declared.need.Need.TheVariants.{Alike};
 ghost use Rattle.name_seen_parts.specs.Standing.{surroundings};
-ghost use Rattle.name_made_parts.specs.AskedColumns.{kind_of_first};
 ghost use Rattle.perm_catalog.specs.Sound.{IsSound};
 
 use name_made_nodes::alike_wanted;
 use name_meaning::{Gives, Need, settled};
 use name_seen::{kind_of, query_seen};
-use name_seen_cores::in_tested;
-use name_seen_parts::{Here, Refusal, ShownColumn};
+use name_seen_cores::{in_tested, kind_of_first};
+use name_seen_parts::{Here, Refusal};
 use perm_values::{Kind, NoMemory};
 use sql_tree::{ArmTree, ExprTree, QueryTree};
 
@@ -194,15 +193,6 @@ fn first_kind(query: &QueryTree, here: &Here) -> Result<Option<Kind>, NoMemory>
         Err(Refusal::Break(_)) => Ok(None),
         Err(Refusal::NoMemory) => Err(NoMemory),
     }
-}
-
-fn kind_of_first(columns: &[ShownColumn]) -> Option<Kind>
-    ensures { result ≡ kind_of_first columns.now }
-{
-    if columns.is_empty() {
-        return None;
-    }
-    columns[0].kind
 }
 
 /// The kind at which the query of a scalar sublink is made.

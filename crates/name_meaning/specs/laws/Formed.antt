@@ -1,9 +1,10 @@
 -- What is made of a clause's expressions, sublinks and aggregates is well formed where it stands.
 use Rattle.std.specs.Prelude.{◌≡◌, false, List, [], length, Some, IfSome}
+use Rattle.perm_values.specs.Rows.{KeysWithin, PlacesWithin}
 use Rattle.perm_values.specs.declared.kind.Kind.{Kind}
 use Rattle.bag_algebra.specs.built.Forms.{AllSubsForm, subs_kinds}
 use Rattle.bag_algebra.specs.Kinds.{width_of}
-use Rattle.bag_algebra.specs.WellFormed.{HasKind, AggregatesForm, KeysIn, PlacesIn}
+use Rattle.bag_algebra.specs.WellFormed.{HasKind, AggregatesForm}
 use Rattle.bag_algebra.specs.declared.query.Aggr.{Aggr}
 use Rattle.bag_algebra.specs.declared.query.Sublink.{Sublink}
 use Rattle.name_meaning.specs.Meanings.{Surroundings, Before, Built, OutColumn, QueryMeant}
@@ -32,5 +33,5 @@ pub record IsAnswer (m : QueryMeant) : Type 0 where
   pub columns : List OutColumn
   pub known : m.columns ≡ Some columns
   pub named : (wanted : List Kind) → length columns ≡ width_of (m.make wanted)
-  pub keys : (wanted : List Kind) → KeysIn (width_of (m.make wanted)) m.keys
-  pub places : IfSome m.places (PlacesIn (width_of (m.make [])))
+  pub keys : (wanted : List Kind) → KeysWithin (width_of (m.make wanted)) m.keys
+  pub places : IfSome m.places (PlacesWithin (width_of (m.make [])))

@@ -2,15 +2,10 @@
 use Rattle.std.specs.Prelude.{◌≡◌, List, [], ◌∷◌, ◌++◌, map, Some}
 use Rattle.perm_values.specs.declared.kind.Kind.{Kind}
 use Rattle.bag_algebra.specs.Kinds.{kinds_of}
-use Rattle.bag_algebra.specs.declared.expr.Item.{Item}
 use Rattle.name_meaning.specs.Cores.{settle}
 use Rattle.name_meaning.specs.Froms.{Read, ItemMeant, FromMeant}
 use Rattle.name_meaning.specs.Meanings.{OutColumn, QueryMeant}
 use Rattle.name_meaning.specs.Scopes.{KnownColumn, ScopeItem}
-
--- the kinds of a SELECT list's columns
-abbrev pub item_kinds : List Item → List Kind
-item_kinds items = map (λ (item : Item). item.kind) items
 
 -- its columns are known, and the query that it is made to has their kinds, those of kind Any the wanted ones
 pub record HasItsKinds (m : QueryMeant) : Type 0 where

@@ -1,6 +1,7 @@
 -- When rows stand for the scopes of names: each column that a name can mean is in the row of its scope, with its kind.
-use Rattle.std.specs.Prelude.{◌≡◌, ⊤, ℕ, suc, ◌+◌, List, [], ◌∷◌, map, slice_get, Some}
+use Rattle.std.specs.Prelude.{◌≡◌, ⊤, ℕ, suc, ◌+◌, List, [], ◌∷◌, slice_get, Some}
 use Rattle.perm_values.specs.declared.kind.Kind.{Kind}
+use Rattle.bag_algebra.specs.Kinds.{aggregate_kinds}
 use Rattle.bag_algebra.specs.declared.query.Aggr.{Aggr}
 use Rattle.name_meaning.specs.Scopes.{place_among, group_count}
 use Rattle.name_meaning.specs.declared.scope.Scope.{Scope}
@@ -25,9 +26,6 @@ RowsHold (scope ∷ scopes) (row ∷ rows) = HoldsScope scope row × RowsHold sc
 abbrev pub own_row : List (List Kind) → List Kind
 own_row [] = []
 own_row (row ∷ rows) = row
-
-abbrev pub aggregate_kinds : List Aggr → List Kind
-aggregate_kinds aggregates = map (λ (aggregate : Aggr). aggregate.kind) aggregates
 
 -- aggregates stand in the core's own row behind its GROUP BY columns, and behind so many aggregates before them
 abbrev pub AggregatesStand : List Scope → ℕ → List Aggr → List (List Kind) → Type 0

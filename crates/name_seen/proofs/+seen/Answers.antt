@@ -22,6 +22,7 @@ use Rattle.name_meaning.specs.declared.need.Gives.{Gives}
 use Rattle.name_meaning.specs.declared.need.Gives.TheVariants.{Common as common}
 use Rattle.name_meaning.specs.declared.need.Need.TheVariants.{Alike as alike, OfKind as of_kind}
 use Rattle.name_meaning.proofs.Forms.{means-null, means-nullof, means-integer, means-text, means-truth, means-column, means-paren, means-nots, means-signs, means-logic, means-chain, means-compared, means-like, means-between, means-inlist, means-isnull, means-istruth, means-isdistinct, means-coalesce, means-exists, means-inquery, means-nullif, means-quantified, means-scalar}
+use Rattle.name_meaning.proofs.Joins.{joins-behind}
 use Rattle.name_seen_parts.specs.Named.{scopes_of}
 use Rattle.name_seen_parts.specs.Standing.{surroundings, around_beside, around_in_from}
 use Rattle.name_seen_cores.specs.Expressed.{ExpressionSeen, OperandsBehind, kind_over}
@@ -34,6 +35,8 @@ use Rattle.name_seen_cores.proofs.Sublinked.{exists-looked, inner-refused, looke
 use Rattle.name_seen.proofs.WhereSeen.{meant_here, operand_here, operands_here}
 use Rattle.std.specs.Prelude.{◌+◌, Bool, Option}
 use Rattle.std.proofs.Common.{take, drop}
+use Rattle.perm_values.proofs.Lists.{map-taken}
+use Rattle.perm_values.proofs.Results.{ok-anyway}
 use Rattle.sql_tree.specs.declared.query.Core.{out-Core}
 use Rattle.sql_tree.specs.declared.source.FromTree.{FromTree, out-FromTree}
 use Rattle.sql_tree.specs.declared.source.JoinStep.{JoinStep, out-JoinStep}
@@ -60,7 +63,7 @@ use Rattle.name_seen_cores.specs.from.Readings.{ItemAdded, ItemSeen, ReadSeen}
 use Rattle.name_seen.proofs.Conditions.{some-condition}
 use Rattle.name_seen.proofs.CoreSteps.{core-answered, from-answered, from-refused, groups-refused, has-from, having-refused, where-refused, word-refused}
 use Rattle.name_seen.proofs.FromTrees.{from-means, inner-read, item-refused, item-means, joined-condition, joined-item, joined-word, lateral-means, named-read, read-refused}
-use Rattle.name_seen.proofs.Joined.{first-refused, first-whole, join-behind, join-refused, joins-behind, lateral-seen, never-if_ok, never-ok, none-held, nothing-read, source-refused, step-refused, whatever-ok}
+use Rattle.name_seen.proofs.Joined.{first-refused, first-whole, join-behind, join-refused, lateral-seen, never-if_ok, never-ok, none-held, nothing-read, source-refused, step-refused}
 use Rattle.name_meaning.proofs.Lateral.{join-lateral, join-plain, lateral_item, plain_item}
 use Rattle.sql_tree.specs.Regular.{is_lateral}
 use Rattle.name_seen.specs.Joining.{JoinSeen}
@@ -68,7 +71,7 @@ use Rattle.name_seen_cores.proofs.Sourced.{source-behind}
 use Rattle.name_seen.proofs.Nodes.{aggregate-alone, aggregate-means, argument-told, case-means, node-behind, none-first, rest-so, steps-so}
 use Rattle.name_seen.proofs.ListItems.{list-refused, star-seen, table_star-seen, value-refused, value-seen}
 use Rattle.name_seen.proofs.QuerySteps.{body_meant, kinds-known, paren-refused, query-answered, query-refused}
-use Rattle.name_seen.proofs.Rows.{mapped-at, mapped-more as row-more, same-refused, twice-at, twice-more}
+use Rattle.name_seen.proofs.Rows.{mapped-at, same-refused, twice-at, twice-more}
 use Rattle.name_seen.proofs.+seen.Goals as goal
 
 pub expressions::expression_seen-returns-in-Null : goal.expressions::expression_seen-returns-in-Null
@@ -538,7 +541,7 @@ sets::operands_seen-loop-step-preserved t c = λ left before first.
     let around = around_of c.args.around.now in
     let steps = map (set_step_of c.args.around.now.catalog.now) (take c.loop-step.step-index c.args.steps.now) in
     subst (λ (m : QueryMeant). ColumnsSeen m before c.operand_seen-seen.new.facts c.operand_seen-seen.result)
-    (sym (ap (set_chain around left) (row-more (set_step_of c.args.around.now.catalog.now) c.args.steps.now c.loop-step.step-index c.step-item.result c.loop-step-test.true c.step-item.is)
+    (sym (ap (set_chain around left) (map-taken (set_step_of c.args.around.now.catalog.now) c.args.steps.now c.loop-step.step-index c.step-item.result c.loop-step-test.true c.step-item.is)
     ∙ chain-behind around left steps (set_step_of c.args.around.now.catalog.now c.step-item.result)))
     (c.operand_seen-seen.ensures (set_chain around left steps) before (c.loop-step.invariant left before first))
 
@@ -736,7 +739,7 @@ pub sources::join_seen-returns-in_err-from_item-clause-named : goal.sources::joi
 sources::join_seen-returns-in_err-from_item-clause-named t c = never-ok _ c.from_residual.result _ c.from_residual.ensures.1
 
 pub sources::join_seen-returns-clause-named : goal.sources::join_seen-returns-clause-named
-sources::join_seen-returns-clause-named t c = whatever-ok c.condition_seen.result c.in_ok-from_item.ensures.named
+sources::join_seen-returns-clause-named t c = ok-anyway c.condition_seen.result c.in_ok-from_item.ensures.named
 
 pub sources::source_items-returns-in_err-from_item-clause-seen : goal.sources::source_items-returns-in_err-from_item-clause-seen
 sources::source_items-returns-in_err-from_item-clause-seen t c =
@@ -809,7 +812,7 @@ sources::source_items-loop-step-preserved t c =
     let is = rw c.as_slice-step-items.ensures at c.step-item.is in
     record {
       seen = subst (λ (m : FromMeant). FromWhole m earlier c.args.facts.now c.join_seen.new.facts c.join_seen.new.scope)
-          (sym (ap (join_all outer (first_item earlier first)) (row-more join joins c.loop-step.step-index c.step-item.result within is)
+          (sym (ap (join_all outer (first_item earlier first)) (map-taken join joins c.loop-step.step-index c.step-item.result within is)
           ∙ joins-behind outer (first_item earlier first) (map join (take c.loop-step.step-index joins)) (join c.step-item.result)))
           (c.in_ok-join_seen.ensures.seen so_far earlier c.args.facts.now c.loop-step.invariant.named c.loop-step.invariant.seen);
       named = c.in_ok-join_seen.ensures.named earlier c.loop-step.invariant.named;
@@ -861,7 +864,7 @@ sources::from_scope-loop-source-preserved t c =
     let so_far = map part (take c.loop-source.source-index c.args.sources.now) in
     record {
       seen = subst (λ (parts : List FromPart). FromWhole (from_all outer parts) [] c.args.facts.now c.source_items.new.facts c.add_items.new.left)
-          (sym (row-more part c.args.sources.now c.loop-source.source-index c.source-item.result c.loop-source-test.true c.source-item.is))
+          (sym (map-taken part c.args.sources.now c.loop-source.source-index c.source-item.result c.loop-source-test.true c.source-item.is))
           (source-behind outer so_far (part c.source-item.result) c.args.facts.now c.loop-source.facts c.source_items.new.facts c.loop-source.scope c.in_ok-own.own c.add_items.new.left
           c.loop-source.invariant.seen
           (subst (λ (names : List (List ℕ)). FromSeen ((part c.source-item.result).means outer names) names c.loop-source.facts c.source_items.new.facts (Ok c.in_ok-own.own))

@@ -14,8 +14,8 @@ ghost use Rattle.name_seen_cores.specs.from.Readings.{relation_facts};
 
 use crate::from::facts::Facts;
 use crate::from::reading::{Reading, relation};
-use crate::from::viewed::kinds_at;
 use bag_algebra::{Label, Place};
+use contribution::kinds_at;
 use name_seen_parts::{label_of, names_of, places_of, texts_of};
 use perm_values::NoMemory;
 use sql_tree::{FromItem, Name, ScopeMark};

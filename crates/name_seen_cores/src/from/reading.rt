@@ -13,9 +13,9 @@ ghost use Rattle.name_seen_cores.specs.from.Readings.{IsRead, ReadSeen, external
 
 use crate::from::facts::Facts;
 use crate::from::shown::QueryShown;
-use crate::from::viewed::{facts_of, kinds_at};
+use crate::from::viewed::facts_of;
 use bag_algebra::{Label, Place};
-use contribution::kinds;
+use contribution::{kinds, kinds_at};
 use name_meaning::{Break, Rule, names_at};
 use name_seen_parts::{Refusal, kinds_of_columns, named_columns, names_of, settled_columns};
 use perm_catalog::{Catalog, Column, TableEntry, ViewEntry};

@@ -49,7 +49,8 @@ pub fn item_break(
     columns: &[Column],
 ) -> Result<(), Break>
     ensures { result
-        ≡ first_or (broken_if (list_any (named_so name.now) names.now.known.keys) rule.RepeatedItem item.now.at
+        ≡ first_or
+        (broken_if (list_any (named_so name.now) names.now.known.keys) rule.RepeatedItem item.now.at
         ++ mark_breaks item.now.mark (Some (known_names columns.now))) tt }
 {
     if names.has(name) {

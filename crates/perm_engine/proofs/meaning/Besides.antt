@@ -1,8 +1,8 @@
 -- A query with the word PROVENANCE that is accepted answers the rows of the same query without it beside their witness lists.
-use Rattle.std.proofs.Common.{◌≡◌, ◌∙◌, ◌↔◌, ◌<◌, ◌≤◌, ℕ, List, [], refl, sym, ap, subst}
+use Rattle.std.proofs.Common.{◌≡◌, ◌∙◌, ◌<◌, ℕ, List, [], refl, sym, ap, subst}
 use Rattle.perm_values.specs.Rows.{printed_cmp}
 use Rattle.bag_algebra.proofs.SortedBags.{same_bag-sorted}
-use Rattle.bag_algebra.specs.Bags.{Row, Bag, SameBag, sorted}
+use Rattle.bag_algebra.specs.Bags.{Row, Bag, sorted}
 use Rattle.bag_algebra.specs.Meaning.{meaning}
 use Rattle.bag_algebra.specs.Outcome.{Outcome, Good, Bad, Faults}
 use Rattle.bag_algebra.specs.TableRows.{rows_in}
@@ -11,7 +11,7 @@ use Rattle.bag_algebra.specs.declared.query.Query.{Query}
 use Rattle.bag_algebra.specs.declared.query.Query.TheVariants.{Prov}
 use Rattle.perm_catalog.specs.Contents.{Contents}
 use Rattle.perm_catalog.specs.Sound.{IsSound}
-use Rattle.query_laws.specs.Holding.{HoldsOnce, InBag}
+use Rattle.query_laws.specs.Holding.{InBag}
 use Rattle.sql_tree.specs.Regular.{RegularStatement}
 use Rattle.sql_tree.specs.declared.query.QueryTree.{QueryTree}
 use Rattle.sql_tree.specs.declared.query.SetTree.{SetTree}
@@ -19,7 +19,7 @@ use Rattle.sql_tree.specs.declared.statement.Statement.{Statement}
 use Rattle.sql_tree.specs.declared.statement.StatementBody.TheVariants as st
 use Rattle.statement_meaning.proofs.Answered.{listed-text}
 use Rattle.statement_meaning.proofs.Nested.{found_beside, found-beside, meaning-good, nested-bad}
-use Rattle.statement_meaning.proofs.Provenance.{fronts, one_provenance_text}
+use Rattle.statement_meaning.proofs.Provenance.{fronts, one_provenance_text, same_bag-holds}
 use Rattle.statement_meaning.proofs.Wide.{as-wide}
 use Rattle.statement_meaning.proofs.Words.{without-word, word-names}
 use Rattle.statement_meaning.specs.laws.Asks.{AsksFor, HasWord, WithoutWord, with_body}
@@ -30,13 +30,6 @@ use Rattle.perm_engine.proofs.meaning.Twins.{asks-resolves, twin}
 use Rattle.perm_engine.specs.meaning.headline.Answers.{AnswersBeside}
 use Rattle.perm_engine.specs.meaning.headline.Words.{asking}
 
--- what a bag holds once, the same bag does
-same-holds : (P : Row → Type 0) (us vs : Bag) → SameBag us vs → HoldsOnce P us → HoldsOnce P vs
-same-holds P us vs s h = record {
-  once = λ t. subst (λ (n : ℕ). n ≤ 1) (s.counts t) (h.once t);
-  rows = λ t. subst (λ (n : ℕ). 0 < n ↔ P t) (s.counts t) (h.rows t);
-}
-
 -- the rows in their order, under a text that is written so
 pub beside-listed : (answer : Answer) (q : Query) (c : Contents) (bag : Bag) (text : List ℕ) → answer_text answer (found_beside q (rows_in c.rows) [] bag) ≡ text
     → ListsBeside answer q (rows_in c.rows) bag text
@@ -45,7 +38,7 @@ beside-listed answer q c bag text written =
     record {
       rows = sorted (printed_cmp answer.keys) found;
       listed = record { ordered = (listed-text answer found).ordered; written = sym written };
-      beside = same-holds (IsBeside q (rows_in c.rows) [] bag) found (sorted (printed_cmp answer.keys) found)
+      beside = same_bag-holds (IsBeside q (rows_in c.rows) [] bag) found (sorted (printed_cmp answer.keys) found)
           (same_bag-sorted (printed_cmp answer.keys) found) (found-beside q (rows_in c.rows) [] bag);
     }
 

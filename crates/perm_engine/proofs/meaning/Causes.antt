@@ -8,7 +8,7 @@ use Rattle.bag_algebra.specs.Bags.{Row, Bag, sorted}
 use Rattle.bag_algebra.specs.Expressions.{value}
 use Rattle.bag_algebra.specs.Meaning.{Database, meaning}
 use Rattle.bag_algebra.specs.Means.{holds_of}
-use Rattle.bag_algebra.specs.Outcome.{Outcome, Good, Bad, each, both, mapped}
+use Rattle.bag_algebra.specs.Outcome.{Outcome, Good, Bad, each, mapped}
 use Rattle.bag_algebra.specs.TableRows.{rows_in}
 use Rattle.bag_algebra.specs.declared.expr.Expr.{Expr}
 use Rattle.bag_algebra.specs.declared.query.Query.{Query}
@@ -26,11 +26,11 @@ use Rattle.name_meaning.specs.declared.answer.Resolved.{Resolved}
 use Rattle.name_meaning.specs.declared.answer.Resolved.TheVariants as r
 use Rattle.statement_meaning.specs.Answers.{Names}
 use Rattle.statement_meaning.specs.Asking.{Asked, Settled, Begins, Explained, asked, asks, unless_broken}
-use Rattle.statement_meaning.specs.Turns.{Turn, Accepted, Refused, Broken, on_good, drawing, counting, identity_of, add_rows, add_unbroken, answered, copy, goes, reads, row_value, rows_before, rows_deleted, rows_going, rows_lost, store_answer, with_added, with_answer}
+use Rattle.statement_meaning.specs.Turns.{Turn, Accepted, Refused, Broken, on_good, drawing, counting, identity_of, add_rows, add_unbroken, answered, copy, reads, row_value, rows_before, rows_deleted, rows_going, rows_lost, store_answer, with_added, with_answer}
 use Rattle.statement_meaning.specs.declared.refusal.StepRefusal.{StepRefusal}
 use Rattle.statement_meaning.specs.declared.refusal.StepRefusal.TheVariants as refusal
-use Rattle.bag_algebra.proofs.Outcomes.{union-first}
-use Rattle.query_laws.proofs.Caused.{Caused, caused-value, caused-denote}
+use Rattle.query_laws.proofs.Caused.{Caused, caused-value, caused-denote, caused-each, caused-both}
+use Rattle.delete_impact.specs.vanishing.Doomed.{doomed_on}
 use Rattle.name_meaning.specs.declared.rule.Rule.TheVariants as rule
 
 abbrev pub is_told : StepRefusal → Bool
@@ -73,17 +73,7 @@ drawing-named c at text new = chosen (nat_eq c.next last_number) where
   chosen true = broken-named (broken rule.NumbersSpent at)
   chosen false = tt
 
-caused-both : {X Y Z : Type 0} (f : X → Y → Z) (a : Outcome X) (b : Outcome Y) → Caused a → Caused b → Caused (both f a b)
-caused-both f (Good x) (Good y) c d = tt
-caused-both f (Good x) (Bad h) c d = d
-caused-both f (Bad g) (Good y) c d = c
-caused-both f (Bad g) (Bad h) c d = (c.0, union-first g h c.0 c.1)
-
-caused-each : {X Y : Type 0} (f : X → Outcome Y) (xs : List X) → ((x : X) → Caused (f x)) → Caused (each f xs)
-caused-each f [] h = tt
-caused-each f (x ∷ xs) h = caused-both (λ y ys. y ∷ ys) (f x) (each f xs) (h x) (caused-each f xs h)
-
-goes-caused : (condition : Option Expr) (row : Row) → Caused (goes condition row)
+goes-caused : (condition : Option Expr) (row : Row) → Caused (doomed_on condition row)
 goes-caused None row = tt
 goes-caused (Some condition) row = by_value (value condition row [] []) (caused-value row [] [] condition) where
   by_value : (o : Outcome _) → Caused o → Caused (mapped holds_of o)
@@ -93,8 +83,8 @@ goes-caused (Some condition) row = by_value (value condition row [] []) (caused-
 before-caused : (id : ℕ) (condition : Option Expr) (query : Query) (db : Database) → Caused (rows_before id condition query db)
 before-caused id condition query db =
     caused-both (λ rows doomed. rows) (meaning query db []) (rows_going id condition query db) (caused-denote query db []) (where_read (reads id query)) where
-      where_read : (b : Bool) → Caused (cond b (each (goes condition) (db id)) (Good []))
-      where_read true = caused-each (goes condition) (db id) (goes-caused condition)
+      where_read : (b : Bool) → Caused (cond b (each (doomed_on condition) (db id)) (Good []))
+      where_read true = caused-each (doomed_on condition) (db id) (goes-caused condition)
       where_read false = tt
 
 unbroken-named : (c : Contents) (at : ℕ) (name : List ℕ) (rules : List DataError) (rows : Bag) → HasName (add_unbroken c at name rules rows)
@@ -128,8 +118,8 @@ asks-named c at (r.Insert name rows) =
     (caused-each row_value rows (λ exprs. caused-each (λ (expr : Expr). value expr [] [] []) exprs (λ expr. caused-value [] [] [] expr)))
     (λ made. drawing-named c at (counting (codes "INSERT ") (length made)) (with_added c name made))
 asks-named c at (r.Delete name condition) =
-    on_good-named at (each (goes condition) (rows_at c (identity_of c name))) (λ doomed. drawing c at (rows_deleted c name doomed))
-    (caused-each (goes condition) (rows_at c (identity_of c name)) (goes-caused condition))
+    on_good-named at (each (doomed_on condition) (rows_at c (identity_of c name))) (λ doomed. drawing c at (rows_deleted c name doomed))
+    (caused-each (doomed_on condition) (rows_at c (identity_of c name)) (goes-caused condition))
     (λ doomed. drawing-named c at (counting (codes "DELETE ") (count_by (λ flag. flag) doomed)) (with_fewer_rows c name (identity_of c name) doomed))
 asks-named c at (r.DropTable name) = tt
 asks-named c at (r.DropView name) = tt

@@ -1,5 +1,6 @@
 -- A run is the course of its statements.
 use Rattle.std.proofs.Common.{◌≡◌, ◌≢◌, ◌⊎◌, ℕ, zero, suc, length, List, [], ◌∷◌, Some, None, Ok, refl, sym, ap, subst, inl, inr}
+use Rattle.std.proofs.lemmas.Option.{same_Some}
 use Rattle.std.specs.List.{slice_get}
 use Rattle.bag_algebra.specs.declared.query.Answer.{Answer}
 use Rattle.perm_catalog.specs.Contents.{Contents}
@@ -23,9 +24,6 @@ behind c left (suc k) = left k
 
 none≢some : (text : List ℕ) → None ≡ Some text → ⊥
 none≢some text e = cc
-
-same_text : (a b : List ℕ) → Some a ≡ Some b → a ≡ b
-same_text a b e = cc
 
 module _ (Can : List ℕ → Found → Type 0) where
   course-end : (c : Contents) → Course Can c [] (ended ToTheEnd)
@@ -79,7 +77,7 @@ module _ (Can : List ℕ → Found → Type 0) where
         statement = statement;
         met = refl;
         turn = subst (λ (d : Contents). TakesTurn Can (asked c statement) c d (Ok t)) (sym h.first)
-            (subst (λ (u : List ℕ). TakesTurn Can (asked c statement) c after (Ok u)) (same_text text t e) turn);
+            (subst (λ (u : List ℕ). TakesTurn Can (asked c statement) c after (Ok u)) (same_Some text t e) turn);
       }
 
       accepted-all : (k : ℕ) (t : List ℕ) → slice_get (text ∷ rest.texts) k ≡ Some t

@@ -1,6 +1,7 @@
 -- A statement is refused by the first rule that it breaks. It draws one number at most, and wants the last one only where
 -- that is the next.
 use Rattle.std.proofs.Common.{◌≡◌, ◌≢◌, ◌∙◌, ℕ, ◌+◌, ◌≤◌, ◌<◌, Bool, true, false, cond, nat_eq, List, [], ◌∷◌, length, None, Ok, Err, codes, refl, sym, ap, subst, arith}
+use Rattle.std.proofs.lemmas.Bool.{eqb-true}
 use Rattle.std.specs.List.{count_by}
 use Rattle.perm_values.specs.Numbers.{last_number}
 use Rattle.perm_values.specs.declared.kind.Kind.{Kind}
@@ -12,7 +13,6 @@ use Rattle.bag_algebra.specs.TableRows.{rows_in}
 use Rattle.bag_algebra.specs.declared.query.Answer.{Answer}
 use Rattle.csv_tables.specs.Loading.{broken_rules, spelled_rows}
 use Rattle.csv_tables.specs.declared.data_error.DataError.{DataError}
-use Rattle.stored_provenance.proofs.Marks.{nat_same}
 use Rattle.perm_catalog.specs.Changes.{rows_at, with_table, with_fewer_rows}
 use Rattle.perm_catalog.specs.Contents.{Contents}
 use Rattle.perm_catalog.specs.declared.column.Column.{Column}
@@ -21,14 +21,15 @@ use Rattle.perm_io.specs.Found as found
 use Rattle.sql_tree.specs.declared.statement.Statement.{Statement}
 use Rattle.sql_tree.specs.declared.statement.StatementBody.{StatementBody}
 use Rattle.sql_tree.specs.declared.statement.StatementBody.TheVariants as st
-use Rattle.name_meaning.proofs.Every.{Every}
+use Rattle.contribution.proofs.WhereGood.{Every}
+use Rattle.delete_impact.specs.vanishing.Doomed.{doomed_on}
 use Rattle.name_seen_parts.specs.Seen.{first_or}
 use Rattle.name_meaning.specs.Meanings.{QueryMeant, broken}
 use Rattle.name_meaning.specs.Statements.{answer_of, breaks, columns_of, defined_columns, delete_made, impact_query, kinds_of_table, query_meant, resolved, resolved_body, rows_made, stored_columns}
 use Rattle.name_meaning.specs.declared.answer.Break.{Break}
 use Rattle.statement_meaning.specs.Answers.{TakesTurn}
 use Rattle.statement_meaning.specs.Asking.{Asked, Settled, Begins, Explained, asked, asks, unless_broken}
-use Rattle.statement_meaning.specs.Turns.{Turn, Accepted, Refused, Broken, Meets, Missing, TooLarge, Unfit, Failed, on_good, drawing, counting, identity_of, add_rows, add_unbroken, answered, copy, goes, row_value, rows_before, rows_deleted, rows_lost, store_answer, with_added, with_answer}
+use Rattle.statement_meaning.specs.Turns.{Turn, Accepted, Refused, Broken, Meets, Missing, TooLarge, Unfit, Failed, on_good, drawing, counting, identity_of, add_rows, add_unbroken, answered, copy, row_value, rows_before, rows_deleted, rows_lost, store_answer, with_added, with_answer}
 use Rattle.statement_meaning.specs.declared.refusal.StepRefusal.{StepRefusal}
 use Rattle.statement_meaning.specs.declared.refusal.StepRefusal.TheVariants as refusal
 use Rattle.perm_engine.specs.meaning.Run.{StopsBy, StopsAsked, StopsAt}
@@ -61,7 +62,7 @@ module _ (c : Contents) where
   frugal-drawing : (at : ℕ) (text : List ℕ) (new : Contents) → new.next ≡ c.next + 1 → IsFrugal c (drawing c at (Accepted text new))
   frugal-drawing at text new h = chosen (nat_eq c.next last_number) refl where
     chosen : (spent : Bool) → nat_eq c.next last_number ≡ spent → IsFrugal c (cond spent (Refused (Broken (broken rule.NumbersSpent at))) (Accepted text new))
-    chosen true e = nat_same c.next last_number e
+    chosen true e = eqb-true c.next last_number e
     chosen false e = omega (arith, h)
 
   frugal-on_good : {X : Type 0} (at : ℕ) (o : Outcome X) (next : X → Turn) → ((x : X) → IsFrugal c (next x)) → IsFrugal c (on_good at o next)
@@ -95,7 +96,7 @@ module _ (c : Contents) where
       frugal-on_good at (each row_value (rows_made c (kinds_of_table c table) rows)) (add_rows (codes "INSERT ") c at table.text)
       (λ made. frugal-drawing at (counting (codes "INSERT ") (length made)) (with_added c table.text made) refl)
   thrifty-asks at (st.Delete table condition) =
-      frugal-on_good at (each (goes (delete_made c table condition)) (rows_at c (identity_of c table.text))) (λ doomed. drawing c at (rows_deleted c table.text doomed))
+      frugal-on_good at (each (doomed_on (delete_made c table condition)) (rows_at c (identity_of c table.text))) (λ doomed. drawing c at (rows_deleted c table.text doomed))
       (λ doomed. frugal-drawing at (counting (codes "DELETE ") (count_by (λ flag. flag) doomed)) (with_fewer_rows c table.text (identity_of c table.text) doomed) refl)
   thrifty-asks at (st.DropTable table) = omega arith
   thrifty-asks at (st.DropView view) = omega arith

@@ -47,6 +47,7 @@ use Rattle.perm_engine.proofs.meaning.Queries.{answers-rows, asks-resolved, sele
 use Rattle.perm_engine.proofs.meaning.Refusing.{refuses-first}
 use Rattle.perm_engine.proofs.meaning.HeadlineSteps.{Keeps, contains-at, done-accepted, sound-at}
 use Rattle.perm_engine.proofs.meaning.Storing.{Freshens, stores-answer}
+use Rattle.perm_engine.proofs.meaning.words.Numbers.{same_rows, misworded≢generated}
 use Rattle.perm_engine.specs.meaning.headline.Answers.{AnswersBeside, AnswersRows}
 use Rattle.perm_engine.specs.meaning.headline.Course.{BreaksOff, Course, EndsBehind, EndsIn}
 use Rattle.perm_engine.specs.meaning.headline.Headline.{Accepts, Headline, HeadlineOfFile, HeadlineOfScript, HeadlineOfStatements, HeadlineOver, IsTold, RefusesFirst}
@@ -191,9 +192,6 @@ refused-at-once why ran is = subst (IsRefusedWhole why) (sym is) (record { stop 
 same_name : (a b : List ℕ) → Named a ≡ Named b → a ≡ b
 same_name a b e = cc
 
-same_rows : (a b : ℕ) → Generated a ≡ Generated b → a ≡ b
-same_rows a b e = cc
-
 named≢misworded : (name : List ℕ) → Named name ≡ Misworded → ⊥
 named≢misworded name e = cc
 
@@ -208,9 +206,6 @@ generated≢named rows name e = cc
 
 misworded≢named : (name : List ℕ) → Misworded ≡ Named name → ⊥
 misworded≢named name e = cc
-
-misworded≢generated : (rows : ℕ) → Misworded ≡ Generated rows → ⊥
-misworded≢generated rows e = cc
 
 module _ (keeps : Keeps) (freshens : Freshens)
     (one_script : (bytes : List ℕ) (a b : Script) → IsScriptOf bytes a → IsScriptOf bytes b → a ≡ b)

@@ -1,6 +1,7 @@
 -- The word PROVENANCE stands behind the first SELECT of a query, or it doesn't.
 use Rattle.std.proofs.Common.{◌≡◌, ◌⊎◌, ◌∙◌, ℕ, map, Option, Some, None, refl, sym, ap, subst, inl, inr}
 use Rattle.perm_catalog.specs.Contents.{Contents}
+use Rattle.sql_tree.specs.Regular.{SetLayer}
 use Rattle.sql_tree.specs.declared.expression.ArmTree.{ArmTree}
 use Rattle.sql_tree.specs.declared.expression.ExprBody.{ExprBody}
 use Rattle.sql_tree.specs.declared.expression.ExprBody.TheFolds.{ind-SetTree, map-SetTree}
@@ -18,7 +19,7 @@ use Rattle.sql_tree.specs.declared.source.FromSource.{FromSource}
 use Rattle.sql_tree.specs.declared.source.FromTree.{FromTree}
 use Rattle.sql_tree.specs.declared.source.JoinStep.{JoinStep}
 use Rattle.name_meaning.proofs.Equations.{token, settree-core, settree-chain, settree-paren}
-use Rattle.name_meaning.proofs.Opened.{Layer_set, core-is}
+use Rattle.name_meaning.proofs.Opened.{core-is}
 use Rattle.name_meaning.specs.Cores.{BodyPart}
 use Rattle.name_meaning.specs.Trees.{set_of_tree}
 use Rattle.statement_meaning.specs.laws.Asks.{HasWord, in_core, in_first}
@@ -65,7 +66,7 @@ module _ (c : Contents) where
   abbrev Proved : Type 0
   Proved = SetTree-F (With ExprBody) (With SelectItem) WithSet (With FromSource) (With ArmTree) (With ExprStep) (With ExprTree) (With Core) (With QueryTree) (With SetStep) (With FromItem) (With FromTree) (With JoinStep)
 
-  abbrev shown : Proved → Layer_set
+  abbrev shown : Proved → SetLayer
   shown = map-SetTree (With ExprBody) (With SelectItem) WithSet (With FromSource) (With ArmTree) (With ExprStep) (With ExprTree) (With Core) (With QueryTree) (With SetStep) (With FromItem) (With FromTree) (With JoinStep)
       ExprBody SelectItem SetTree FromSource ArmTree ExprStep ExprTree Core QueryTree SetStep FromItem FromTree JoinStep
       (λ (e : With ExprBody). e.0) (λ (e : With SelectItem). e.0) (λ (e : WithSet). e.0) (λ (e : With FromSource). e.0) (λ (e : With ArmTree). e.0) (λ (e : With ExprStep). e.0) (λ (e : With ExprTree). e.0) (λ (e : With Core). e.0) (λ (e : With QueryTree). e.0) (λ (e : With SetStep). e.0) (λ (e : With FromItem). e.0) (λ (e : With FromTree). e.0) (λ (e : With JoinStep). e.0)
@@ -78,7 +79,7 @@ module _ (c : Contents) where
 
   decided : (tree : SetTree) → Decided tree
   decided = ind-SetTree (λ (tree : ExprBody). Unit {0}) (λ (tree : SelectItem). Unit {0}) Decided (λ (tree : FromSource). Unit {0}) (λ (tree : ArmTree). Unit {0}) (λ (tree : ExprStep). Unit {0}) (λ (tree : ExprTree). Unit {0}) (λ (tree : Core). Unit {0}) (λ (tree : QueryTree). Unit {0}) (λ (tree : SetStep). Unit {0}) (λ (tree : FromItem). Unit {0}) (λ (tree : FromTree). Unit {0}) (λ (tree : JoinStep). Unit {0})
-      (λ x y is. tt) (λ x y is. tt) (λ x y is. subst (λ (z : Layer_set). Decided (roll-SetTree z)) is (decides y)) (λ x y is. tt) (λ x y is. tt) (λ x y is. tt) (λ x y is. tt) (λ x y is. tt) (λ x y is. tt) (λ x y is. tt) (λ x y is. tt) (λ x y is. tt) (λ x y is. tt)
+      (λ x y is. tt) (λ x y is. tt) (λ x y is. subst (λ (z : SetLayer). Decided (roll-SetTree z)) is (decides y)) (λ x y is. tt) (λ x y is. tt) (λ x y is. tt) (λ x y is. tt) (λ x y is. tt) (λ x y is. tt) (λ x y is. tt) (λ x y is. tt) (λ x y is. tt) (λ x y is. tt)
 
   none-at : (at : ℕ) → None ≡ Some at → ⊥
   none-at at e = cc

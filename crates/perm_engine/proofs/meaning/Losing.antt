@@ -31,13 +31,14 @@ use Rattle.sql_tree.specs.declared.query.QueryTree.{QueryTree}
 use Rattle.sql_tree.specs.declared.statement.Statement.{Statement}
 use Rattle.sql_tree.specs.declared.statement.StatementBody.{StatementBody}
 use Rattle.sql_tree.specs.declared.statement.StatementBody.TheVariants as st
+use Rattle.delete_impact.specs.vanishing.Doomed.{doomed_on}
 use Rattle.statement_meaning.proofs.Impacts.{before-good, each-good, lost-listed, one_lost_text}
 use Rattle.statement_meaning.proofs.Ready.{names-whole}
 use Rattle.statement_meaning.proofs.Wide.{rows-wide, tree-named}
 use Rattle.statement_meaning.specs.laws.Lost.{ListsLost}
 use Rattle.statement_meaning.specs.Answers.{TakesTurn}
 use Rattle.statement_meaning.specs.Asking.{asks}
-use Rattle.statement_meaning.specs.Turns.{Accepted, answer_text, answered, goes, identity_of, impact, on_good, reads, rows_before, rows_going, rows_lost}
+use Rattle.statement_meaning.specs.Turns.{Accepted, answer_text, answered, identity_of, impact, on_good, reads, rows_before, rows_going, rows_lost}
 use Rattle.perm_engine.proofs.meaning.HeadlineSteps.{IsDone}
 use Rattle.perm_engine.specs.meaning.headline.Answers.{AnswersLost}
 
@@ -116,14 +117,14 @@ module _ (Can : List ℕ → Found → Type 0) (c after : Contents) (statement :
       subst (λ (id : ℕ). ListsLost answer id given db text) id-is
       (lost-listed answer (identity_of c table.text) given db found.bag text both-good.0 found.written)
 
-  going-good : (b : Bool) (doomed : List Bool) → b ≡ true → cond b (each (goes given) (db stands.table.id)) (Good []) ≡ Good doomed
-      → each (goes given) (db stands.table.id) ≡ Good doomed
+  going-good : (b : Bool) (doomed : List Bool) → b ≡ true → cond b (each (doomed_on given) (db stands.table.id)) (Good []) ≡ Good doomed
+      → each (doomed_on given) (db stands.table.id) ≡ Good doomed
   going-good true doomed read e = e
   going-good false doomed read e = absurd (cc read)
 
-  met : reads stands.table.id answer.query ≡ true → (row : Row) → IsTrue (member row (db stands.table.id)) → (doomed : Bool) × (goes given row ≡ Good doomed)
+  met : reads stands.table.id answer.query ≡ true → (row : Row) → IsTrue (member row (db stands.table.id)) → (doomed : Bool) × (doomed_on given row ≡ Good doomed)
   met read row there =
-      each-good (goes given) (db stands.table.id) both-good.1.0
+      each-good (doomed_on given) (db stands.table.id) both-good.1.0
       (going-good (reads stands.table.id answer.query) both-good.1.0 read
       (subst (λ (id : ℕ). rows_going id given answer.query db ≡ Good both-good.1.0) id-is both-good.1.1)) row (member-in row (db stands.table.id) there)
 

@@ -1,5 +1,6 @@
 -- Bytes without tokens are misspelled, and bytes that are misspelled are no script.
-use Rattle.std.proofs.Common.{◌≡◌, ◌∙◌, ℕ, List, length, Some, None, Err, sym, ap, subst}
+use Rattle.std.proofs.Common.{◌≡◌, ◌∙◌, ℕ, List, length, Err, sym, ap, subst}
+use Rattle.std.proofs.lemmas.Option.{none-some}
 use Rattle.sql_lexer.specs.Lexes.{Lexes, Refuses, MayRefuse}
 use Rattle.sql_lexer.specs.declared.token.Token.{Token}
 use Rattle.sql_lexer.specs.declared.lex_error.LexError.{LexError}
@@ -17,9 +18,6 @@ IsReading-no_tokens bytes (Unterminated at) h = unterminated h
 IsReading-no_tokens bytes (NumberRange at) h = number_range h
 IsReading-no_tokens bytes NoMemory h = tt
 
-none_some : {X : Type 0} (x : X) → None ≡ Some x → ⊥
-none_some x e = absurd cc
-
 -- by the laws of tokens and of trees
 pub misspelled-no_script : ((bytes : List ℕ) (ts us : List Token) → Lexes bytes ts → Lexes bytes us → ts ≡ us) →
     ((bytes : List ℕ) (ts : List Token) (error : LexError) → Lexes bytes ts → Refuses bytes error → ⊥) →
@@ -32,4 +30,4 @@ misspelled-no_script one lexed parsed bytes script b s (number_range {at = n} h)
 misspelled-no_script one lexed parsed bytes script b s (unexpected {at = n} {tokens = ts} lexes shallow h) =
     parsed ts (length bytes) n script h (subst (λ us. Spells us script) (one bytes s.tokens ts s.lexes lexes) s.spells)
 misspelled-no_script one lexed parsed bytes script b s (too_deep {at = n} {tokens = ts} lexes deep) =
-    none_some n (sym s.shallow ∙ ap nesting.too_deep (one bytes s.tokens ts s.lexes lexes) ∙ deep)
+    none-some n (sym s.shallow ∙ ap nesting.too_deep (one bytes s.tokens ts s.lexes lexes) ∙ deep)

@@ -1,5 +1,6 @@
 -- Over told files of which none fails there is one run, but for which fault is named, which texts explain, and one that breaks off.
 use Rattle.std.proofs.Common.{◌≡◌, ◌≢◌, ◌∙◌, ℕ, ◌+◌, ◌≤◌, ◌<◌, true, List, [], ◌∷◌, length, Option, Some, None, IsSomeAnd, refl, sym, ap, subst, inl, inr, arith}
+use Rattle.std.proofs.lemmas.Option.{same_Some}
 use Rattle.perm_engine.specs.meaning.words.Requests.{request_of}
 use Rattle.perm_engine.specs.declared.meaning.words.wanted.Wanted.{Wanted}
 use Rattle.perm_engine.specs.declared.meaning.words.wanted.Wanted.TheVariants.{Script as OfFile, Generated, Misworded}
@@ -31,9 +32,6 @@ use Rattle.perm_engine.proofs.meaning.Breaks.{Spelled}
 
 -- ---- what became of a file
 
-same_bytes : (bs cs : List ℕ) → Some bs ≡ Some cs → bs ≡ cs
-same_bytes bs cs e = cc
-
 some≢none : (bs : List ℕ) → Some bs ≡ None → ⊥
 some≢none bs e = absurd cc
 
@@ -45,7 +43,7 @@ module _ (limit : ℕ) (held : List NamedFile) (name : List ℕ) where
   not_missing e long = subst (λ (found : Option (List ℕ)). IsSomeAnd found (λ (b : List ℕ). limit < length b)) e long
 
   pub same_found : (f g : Found) → CanBe limit (Some held) ⊥ name f → CanBe limit (Some held) ⊥ name g → f ≡ g
-  same_found (Read bs) (Read cs) h k = ap Read (same_bytes bs cs (sym h.0 ∙ k.0))
+  same_found (Read bs) (Read cs) h k = ap Read (same_Some bs cs (sym h.0 ∙ k.0))
   same_found (Read bs) Missing h k = absurd (some≢none bs (sym h.0 ∙ k))
   same_found (Read bs) TooLong h k = absurd (not_both bs h.0 h.1 k)
   same_found (Read bs) Failed h k = absurd k

@@ -1,6 +1,7 @@
 -- In FROM, a query with the word PROVENANCE is a source over the PROVENANCE of the same query without it.
 use Rattle.std.proofs.Common.{◌≡◌, ◌∙◌, ℕ, Bool, cond, List, [], ◌++◌, map, is_some, option_map, Option, Some, None, refl, sym, ap, subst}
 use Rattle.std.specs.Option.{option_map_or}
+use Rattle.perm_values.proofs.Lists.{front-none, back-none}
 use Rattle.bag_algebra.specs.declared.query.Query.{Query}
 use Rattle.bag_algebra.specs.declared.query.Query.TheVariants.{Prov}
 use Rattle.perm_catalog.specs.Contents.{Contents}
@@ -12,11 +13,10 @@ use Rattle.sql_tree.specs.declared.query.SetTree.{SetTree}
 use Rattle.sql_tree.specs.declared.statement.Statement.{Statement}
 use Rattle.sql_tree.specs.declared.statement.StatementBody.{StatementBody}
 use Rattle.sql_tree.specs.declared.statement.StatementBody.TheVariants as st
-use Rattle.name_meaning.proofs.Every.{back-none, front-none}
 use Rattle.name_meaning.proofs.Equations.{token, querytree-record, settree-chain, settree-core}
-use Rattle.name_meaning.proofs.Opened.{Layer_core, opened_core, shown_core}
+use Rattle.name_meaning.proofs.Opened.{CoreLayer, opened_core, shown_core}
 use Rattle.name_meaning.specs.Cores.{BodyPart, core_step}
-use Rattle.name_meaning.specs.Froms.{external, names_of, read_names, read_query, read_view, settled_columns}
+use Rattle.name_meaning.specs.Froms.{external, names_of, read_names, read_query, read_view, settled_columns, in_from}
 use Rattle.name_meaning.specs.Meanings.{Around, OutColumn, QueryMeant, QueryPart, query_means_at}
 use Rattle.name_meaning.specs.Queries.{count_columns, keys_breaks, keys_of, limited, plain_query, provenance_places, query_seen, query_with_provenance, set_chain}
 use Rattle.name_meaning.specs.Statements.{breaks, name_breaks, named_query_breaks, query_meant, resolved, resolved_body, taken, view_entry}
@@ -27,14 +27,14 @@ use Rattle.statement_meaning.proofs.Ready.{names-whole, query-whole}
 use Rattle.statement_meaning.proofs.Words.{no_word}
 use Rattle.statement_meaning.specs.laws.Asks.{HasWord, WithoutWord, plain_core, plain_first, with_body}
 use Rattle.perm_engine.proofs.meaning.Lacking.{word-at}
-use Rattle.perm_engine.specs.meaning.headline.Sources.{IsOverProvenance, KeepsProvenance, in_from, subquery}
+use Rattle.perm_engine.specs.meaning.headline.Sources.{IsOverProvenance, KeepsProvenance, subquery}
 
 module _ (c : Contents) (outer : List Scope) where
   abbrev own : Around
   own = in_from outer
 
   -- where the word may stand it is no break
-  wordless : (layer : Layer_core) → (core_step (shown_core c layer)).means own ≡ (core_step (shown_core c (record layer { provenance = None }))).means own
+  wordless : (layer : CoreLayer) → (core_step (shown_core c layer)).means own ≡ (core_step (shown_core c (record layer { provenance = None }))).means own
   wordless layer = refl
 
   same-without : (tree plain : SetTree) → WithoutWord tree plain → (set_of_tree c tree).means own ≡ (set_of_tree c plain).means own
@@ -42,7 +42,7 @@ module _ (c : Contents) (outer : List Scope) where
   same-without tree plain (plain_core core other e) =
       ap (λ (part : BodyPart). part.means own) (settree-core c core ∙ opened_core c core)
       ∙ wordless (out-Core core)
-      ∙ ap (λ (layer : Layer_core). (core_step (shown_core c layer)).means own) (sym e)
+      ∙ ap (λ (layer : CoreLayer). (core_step (shown_core c layer)).means own) (sym e)
       ∙ sym (ap (λ (part : BodyPart). part.means own) (settree-core c other ∙ opened_core c other))
   same-without tree plain (plain_first first other steps h) =
       ap (λ (part : BodyPart). part.means own) (settree-chain c first steps)

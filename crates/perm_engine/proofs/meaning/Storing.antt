@@ -2,12 +2,12 @@
 use Rattle.std.proofs.Common.{◌≡◌, ◌∙◌, ℕ, Bool, true, false, cond, List, [], length, nat_eq, codes, Option, Some, Ok, refl, sym, ap, subst}
 use Rattle.perm_values.specs.Numbers.{last_number}
 use Rattle.perm_values.specs.Rows.{printed_cmp}
+use Rattle.perm_values.proofs.Lists.{back-none}
 use Rattle.bag_algebra.specs.Bags.{Bag, sorted}
 use Rattle.bag_algebra.specs.Meaning.{meaning}
 use Rattle.bag_algebra.specs.Outcome.{Outcome, Good, Bad}
 use Rattle.bag_algebra.specs.TableRows.{rows_in}
 use Rattle.bag_algebra.specs.declared.query.Answer.{Answer}
-use Rattle.name_meaning.proofs.Every.{back-none}
 use Rattle.name_meaning.specs.Meanings.{QueryMeant, broken}
 use Rattle.name_meaning.specs.Queries.{count_columns, provenance_places}
 use Rattle.name_meaning.specs.Statements.{answer_of, breaks, columns_of, limit_breaks, name_breaks, query_limits, query_meant, resolved, resolved_body, stored_columns, table_limit}

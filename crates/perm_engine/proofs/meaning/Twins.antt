@@ -2,6 +2,7 @@
 use Rattle.std.proofs.Common.{◌≡◌, ◌∙◌, ◌≤◌, ℕ, Bool, true, false, cond, ◌||◌, List, [], ◌∷◌, ◌++◌, find, nat_lt, option_map, Option, Some, None, length-append, refl, sym, ap, subst, arith}
 use Rattle.std.proofs.lemmas.Bool.{le-ltb, ltb-false}
 use Rattle.std.specs.Option.{option_map_or}
+use Rattle.perm_values.proofs.Lists.{front-none, back-none}
 use Rattle.bag_algebra.specs.Measures.{height_of, size_of}
 use Rattle.bag_algebra.specs.built.Openings.{Prov-is}
 use Rattle.bag_algebra.specs.declared.query.Answer.{Answer}
@@ -13,13 +14,15 @@ use Rattle.sql_tree.specs.declared.query.SetTree.{SetTree}
 use Rattle.sql_tree.specs.declared.statement.Statement.{Statement}
 use Rattle.sql_tree.specs.declared.statement.StatementBody.{StatementBody}
 use Rattle.sql_tree.specs.declared.statement.StatementBody.TheVariants as st
-use Rattle.name_meaning.proofs.Every.{front-none, back-none}
+use Rattle.bag_algebra.proofs.Truths.{left-false, right-false}
 use Rattle.name_meaning.specs.Meanings.{OutColumn, QueryMeant, broken, broken_if, is_whole}
 use Rattle.name_meaning.specs.Queries.{columns_with_provenance, count_columns, plain_query, provenance_columns, query_with_provenance}
 use Rattle.name_meaning.specs.Statements.{breaks, greatest_height, limit_breaks, most_operators, most_query_columns, name_breaks, query_limits, size_limit, width_limit}
 use Rattle.name_meaning.specs.declared.answer.Break.{Break}
 use Rattle.name_meaning.specs.declared.rule.Rule.TheVariants as rule
-use Rattle.statement_meaning.proofs.Ready.{left-false, names-whole, right-false, unbroken}
+use Rattle.name_meaning.proofs.Every.{unbroken-not}
+use Rattle.name_meaning.proofs.Impacts.{later-none}
+use Rattle.statement_meaning.proofs.Ready.{names-whole}
 use Rattle.statement_meaning.proofs.Words.{plain_seen, proved-seen, body_meant, whole_query, word-proves}
 use Rattle.statement_meaning.specs.laws.Asks.{AsksFor, HasWord, IsResolved, WithoutWord, with_body}
 use Rattle.perm_engine.specs.meaning.headline.Words.{asking}
@@ -53,7 +56,7 @@ smaller limit big small e less = let within = ltb-false limit big e in le-ltb li
 
 size-below : (at : ℕ) (query : Query) → size_limit at (Prov query) ≡ [] → size_limit at query ≡ []
 size-below at query h =
-    let small = unbroken (nat_lt greatest_height (height_of (Prov query)) || nat_lt most_operators (size_of (Prov query))) rule.TooLarge at h in
+    let small = unbroken-not (nat_lt greatest_height (height_of (Prov query)) || nat_lt most_operators (size_of (Prov query))) rule.TooLarge at h in
     let height = smaller greatest_height (height_of (Prov query)) (height_of query)
     (left-false (nat_lt greatest_height (height_of (Prov query))) (nat_lt most_operators (size_of (Prov query))) small) (omega (arith, ap height_of (Prov-is query))) in
     let size = smaller most_operators (size_of (Prov query)) (size_of query)
@@ -63,16 +66,12 @@ size-below at query h =
 
 -- ---- the twin
 
-limits-whole : (names limits : List Break) → cond (is_whole names) limits names ≡ [] → limits ≡ []
-limits-whole [] limits e = e
-limits-whole (first ∷ more) limits e = absurd (cc e)
-
 pub no-breaks : (c : Contents) (body : StatementBody) → name_breaks c body ≡ [] → limit_breaks c body ≡ []
     → cond (is_whole (name_breaks c body)) (limit_breaks c body) (name_breaks c body) ≡ []
 no-breaks c body names limits = ap (λ (ns : List Break). cond (is_whole ns) (limit_breaks c body) ns) names ∙ limits
 
 pub limits-of : (c : Contents) (statement : Statement) → breaks c statement ≡ [] → limit_breaks c statement.body ≡ []
-limits-of c statement = limits-whole (name_breaks c statement.body) (limit_breaks c statement.body)
+limits-of c statement = later-none (name_breaks c statement.body) (limit_breaks c statement.body)
 
 module _ (c : Contents) (statement : Statement) (answer : Answer) (tree : QueryTree) (at : ℕ) (body : SetTree) (asked_for : AsksFor c statement answer)
     (is : statement.body ≡ st.Select tree) (word : HasWord at tree.body) (without : WithoutWord tree.body body) where

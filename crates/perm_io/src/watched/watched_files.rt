@@ -67,7 +67,8 @@ impl<F: Files + Drop> Files for WatchedFiles<F> {
         ensures begun { (F.told self.new.files).begun ≡ next_count (F.told self.old.files).begun }
         ensures taken { (F.told self.new.files).taken ≡ 0 }
         ensures absent { (F.told self.new.files).absent ≡ is_absent result }
-        ensures faults { CountsFault (F.told self.old.files).faults (F.told self.new.files).faults (has_failed result) }
+        ensures faults { CountsFault (F.told self.old.files).faults (F.told self.new.files).faults
+            (has_failed result) }
         ensures found { OnTrue (is_found result) (IfSome (F.told self.old.files).held (λ files.
             IsSomeAnd (file_named files name.now) (λ bytes. (F.told self.new.files).rest ≡ Some bytes))) }
         ensures missing { OnTrue (is_absent result) (IfSome (F.told self.old.files).held (λ files.
@@ -88,12 +89,15 @@ impl<F: Files + Drop> Files for WatchedFiles<F> {
         ensures held { (F.told self.new.files).held ≡ (F.told self.old.files).held }
         ensures begun { (F.told self.new.files).begun ≡ (F.told self.old.files).begun }
         ensures absent { (F.told self.new.files).absent ≡ (F.told self.old.files).absent }
-        ensures faults { CountsFault (F.told self.old.files).faults (F.told self.new.files).faults (is_err result) }
+        ensures faults { CountsFault (F.told self.old.files).faults (F.told self.new.files).faults
+            (is_err result) }
         ensures bound { IfOk result (λ count. count ≤ length into.new) }
         ensures moved { IfOk result (λ count.
             (F.told self.old.files).rest ≡ prepend_known (take count into.new) (F.told self.new.files).rest) }
-        ensures end { IfOk result (λ count. count ≡ 0 → 0 < length into.new → IsAtEnd (F.told self.old.files).rest) }
-        ensures taken { IfOk result (λ count. (F.told self.new.files).taken ≡ raised (F.told self.old.files).taken count) }
+        ensures end { IfOk result (λ count. count ≡ 0 → 0 < length into.new →
+            IsAtEnd (F.told self.old.files).rest) }
+        ensures taken { IfOk result (λ count.
+            (F.told self.new.files).taken ≡ raised (F.told self.old.files).taken count) }
         ensures failed { OnErr result (((F.told self.new.files).rest ≡ (F.told self.old.files).rest)
             × ((F.told self.new.files).taken ≡ (F.told self.old.files).taken)) }
         ensures name { self.new.name.items ≡ self.old.name.items }

@@ -44,12 +44,14 @@ impl<K: Sink + Drop> Sink for WatchedSink<K> {
         ensures bound { IfOk result (λ count. count ≤ length from.now) }
         ensures some { IfOk result (λ count. 0 < length from.now → 0 < count) }
         ensures taken { IfOk result (λ count.
-            (K.told self.new.out).written ≡ append_known (K.told self.old.out).written (take count from.now)) }
+            (K.told self.new.out).written
+            ≡ append_known (K.told self.old.out).written (take count from.now)) }
         ensures unflushed { IfOk result (λ count.
             (K.told self.new.out).unflushed ≡ ((K.told self.old.out).unflushed || nat_lt 0 count)) }
         ensures failed { OnErr result (((K.told self.new.out).written ≡ (K.told self.old.out).written)
             × ((K.told self.new.out).unflushed ≡ (K.told self.old.out).unflushed)) }
-        ensures faults { CountsFault (K.told self.old.out).faults (K.told self.new.out).faults (is_err result) }
+        ensures faults { CountsFault (K.told self.old.out).faults (K.told self.new.out).faults
+            (is_err result) }
         ensures kept { IfOk result (λ count.
             self.new.kept.items ≡ last_of LAST (self.old.kept.items ++ take count from.now)) }
         ensures as_before { OnErr result (self.new.kept.items ≡ self.old.kept.items) }
@@ -67,7 +69,8 @@ impl<K: Sink + Drop> Sink for WatchedSink<K> {
         ensures written { (K.told self.new.out).written ≡ (K.told self.old.out).written }
         ensures flushed { OnOk result ((K.told self.new.out).unflushed ≡ false) }
         ensures failed { OnErr result ((K.told self.new.out).unflushed ≡ (K.told self.old.out).unflushed) }
-        ensures faults { CountsFault (K.told self.old.out).faults (K.told self.new.out).faults (is_err result) }
+        ensures faults { CountsFault (K.told self.old.out).faults (K.told self.new.out).faults
+            (is_err result) }
         ensures kept { self.new.kept.items ≡ self.old.kept.items }
     {
         self.out.flush()

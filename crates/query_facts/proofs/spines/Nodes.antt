@@ -1,5 +1,6 @@
 -- Whether a query is monotone, where its topmost node is one of a monotone query.
-use Rattle.std.proofs.Common.{◌≡◌, ℕ, Bool, true, false, ◌&&◌, List, [], ◌∷◌, sym, ap, ◌∙◌, refl}
+use Rattle.std.proofs.Common.{◌≡◌, ℕ, true, false, ◌&&◌, List, [], ◌∷◌, sym, ap, ◌∙◌}
+use Rattle.std.proofs.Math.Bool.{and-false}
 use Rattle.std.specs.List.{list_all}
 use mathlib.Core.Bool.{true≢false}
 use Rattle.bag_algebra.specs.Inputs.{inputs_of}
@@ -7,6 +8,7 @@ use Rattle.bag_algebra.specs.built.Openings.{Base-is}
 use Rattle.bag_algebra.specs.declared.query.Label.{Label}
 use Rattle.bag_algebra.specs.declared.query.Query.{Query}
 use Rattle.bag_algebra.specs.declared.query.Query.TheVariants.{Base}
+use Rattle.bag_algebra.proofs.Truths.{and_true}
 use Rattle.query_facts.specs.monotone.Monotone.{is_monotone, own_monotone}
 use Rattle.query_facts.proofs.Nodes.{is_monotone-node}
 
@@ -21,10 +23,6 @@ by_inputs query inputs own are =
 pub no_inputs : (query : Query) → own_monotone query ≡ true → [] ≡ inputs_of query → true ≡ is_monotone query
 no_inputs query own are = sym (by_inputs query [] own are)
 
-and_true : (b : Bool) → (b && true) ≡ b
-and_true true = refl
-and_true false = refl
-
 pub one_input : (query input : Query) → own_monotone query ≡ true → input ∷ [] ≡ inputs_of query → is_monotone input ≡ is_monotone query
 one_input query input own are = sym (by_inputs query (input ∷ []) own are ∙ and_true (is_monotone input))
 
@@ -33,13 +31,9 @@ pub left_input : (query left right : Query) → own_monotone query ≡ true → 
 left_input query left right own are monotone =
     sym (by_inputs query (left ∷ right ∷ []) own are ∙ ap (λ b. is_monotone left && (b && true)) (sym monotone) ∙ and_true (is_monotone left))
 
-none_of : (b : Bool) → (b && false) ≡ false
-none_of true = refl
-none_of false = refl
-
 pub right_fails : (query left right : Query) → own_monotone query ≡ true → left ∷ right ∷ [] ≡ inputs_of query → false ≡ is_monotone right
     → false ≡ is_monotone query
 right_fails query left right own are fails =
-    sym (by_inputs query (left ∷ right ∷ []) own are ∙ ap (λ b. is_monotone left && (b && true)) (sym fails) ∙ none_of (is_monotone left))
+    sym (by_inputs query (left ∷ right ∷ []) own are ∙ ap (λ b. is_monotone left && (b && true)) (sym fails) ∙ and-false (is_monotone left))
 
 pub ruleset along = (no_inputs, one_input, left_input, right_fails)

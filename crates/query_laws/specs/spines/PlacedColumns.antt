@@ -4,6 +4,7 @@ use Rattle.perm_values.specs.declared.kind.Kind.{Kind}
 use Rattle.bag_algebra.specs.Bags.{Row}
 use Rattle.bag_algebra.specs.Expressions.{value}
 use Rattle.bag_algebra.specs.FaultFree.{faultless, items_faultless}
+use Rattle.bag_algebra.specs.Kinds.{item_kinds}
 use Rattle.bag_algebra.specs.Meaning.{items_on}
 use Rattle.bag_algebra.specs.Means.{no_subs}
 use Rattle.bag_algebra.specs.Outcome.{Good}
@@ -12,7 +13,6 @@ use Rattle.bag_algebra.specs.declared.expr.Arm.{Arm}
 use Rattle.bag_algebra.specs.declared.expr.ChainStep.{ChainStep}
 use Rattle.bag_algebra.specs.declared.expr.Expr.{Expr}
 use Rattle.bag_algebra.specs.declared.expr.Item.{Item}
-use Rattle.contribution.specs.ItemKinds.{item_kinds}
 use Rattle.contribution.specs.MovedColumns.{Along}
 
 -- The first expression sees as its own row what the items make of a joined row, and as its nearest outer row the joined row

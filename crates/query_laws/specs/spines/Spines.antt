@@ -22,7 +22,7 @@ use Rattle.bag_algebra.specs.declared.query.JoinKind.{JoinKind}
 use Rattle.bag_algebra.specs.declared.query.JoinKind.TheVariants.{Left}
 use Rattle.bag_algebra.specs.declared.query.Query.{Query, end_of-Sublink}
 use Rattle.bag_algebra.specs.declared.query.Query.TheVariants.{Table, Single}
-use Rattle.contribution.specs.Conjunctions.{always}
+use Rattle.contribution.specs.Conjunctions.{condition_or_true}
 use Rattle.contribution.specs.Fitting.{Fitting}
 use Rattle.contribution.specs.ItemKinds.{column_of}
 use Rattle.query_laws.specs.spines.PlacedColumns.{IsPlaced, ItemsPlaced}
@@ -130,15 +130,10 @@ all_behind width items = list_all (λ (item : Item). is_behind width item.expr) 
 abbrev pub Suits : JoinKind → ℕ → List Item → Type 0
 Suits kind width items = keeps_left kind ≡ true → all_behind width items ≡ true
 
--- on what the rows are joined with those of the base
-abbrev pub test_of : Option Expr → Expr
-test_of None = always
-test_of (Some test) = test
-
 -- the rows of the left query, each beside what the items make of it and a row of the base
 abbrev pub spine_join : JoinKind → Query → Spine → Query
 spine_join kind left spine =
-    ProjectOf (JoinOf kind left spine.base (test_of spine.test) [] end_of-Sublink)
+    ProjectOf (JoinOf kind left spine.base (condition_or_true spine.test) [] end_of-Sublink)
     (items_behind 0 (kinds_of left) ++ spine.items) [] end_of-Sublink
 
 -- p is what the dependent join of the rows with the right query is that keeps left rows: of the same columns, plain where both

@@ -2,14 +2,14 @@
 ghost use Rattle.std.specs.Prelude.{◌≡◌, ◌++◌, [], IfOk, IfSome, IsTrue};
 ghost use Rattle.bag_algebra.specs.Kinds.{kinds_of, width_of};
 ghost use Rattle.bag_algebra.specs.built.Patterns.{ProjectOf};
-ghost use Rattle.bag_algebra.specs.declared.query.JoinKind.TheVariants.{Left};
 ghost use Rattle.bag_algebra.specs.declared.query.Query.{Query, end_of-Sublink};
+ghost use Rattle.contribution.specs.Conjunctions.{condition_or_true};
 ghost use Rattle.query_laws.specs.spines.Spines.{IsBeside, IsJoined, IsSpine, all_behind, is_behind, items_behind};
-ghost use Rattle.query_laws.specs.spines.Spines.{spine_join, test_of};
+ghost use Rattle.query_laws.specs.spines.Spines.{spine_join};
 
 use crate::spines::spine::{Spine, items_behind, spine_of};
-use bag_algebra::{Expr, Item, JoinKind, Query, width};
-use contribution::{always, join_on, kinds, projection};
+use bag_algebra::{Expr, Item, JoinKind, Query, exact_width};
+use contribution::{always, join_on, kinds, outwards, projection};
 use perm_values::{List, NoMemory};
 use std::alloc::Global;
 
@@ -34,13 +34,6 @@ pub fn beside(alloc: Global, rows: Query, right: Query) -> Result<Query, NoMemor
     }
 }
 
-/// Left rows without partner are kept.
-fn outwards() -> JoinKind
-    ensures { result ≡ Left }
-{
-    JoinKind::Left
-}
-
 /// The spine that the right query is beside the rows, where its items are columns of the base.
 fn spine_beside(alloc: Global, rows: &Query, right: &Query) -> Result<Option<Spine>, NoMemory>
     ensures { IfOk result (λ found. IfSome found (λ spine. IsSpine (width_of rows.now) right.now spine
@@ -55,17 +48,6 @@ fn spine_beside(alloc: Global, rows: &Query, right: &Query) -> Result<Option<Spi
     }
     drop(spine);
     Ok(None)
-}
-
-/// The number of columns. Want of memory comes where it isn't below `usize::MAX`, at which `width` stays.
-fn exact_width(query: &Query) -> Result<usize, NoMemory>
-    ensures { IfOk result (λ count. count ≡ width_of query.now) }
-{
-    let count = width(query);
-    if count == usize::MAX {
-        return Err(NoMemory);
-    }
-    Ok(count)
 }
 
 /// Whether all items are columns behind so many others.
@@ -126,7 +108,7 @@ fn own_columns(alloc: Global, left: &Query) -> Result<List<Item>, NoMemory>
 
 /// What the rows are joined on.
 fn test_of(test: Option<Expr>) -> Expr
-    ensures { result ≡ test_of test }
+    ensures { result ≡ condition_or_true test }
 {
     match test {
         Some(test) => test,

@@ -3,12 +3,11 @@ ghost use Rattle.std.specs.Prelude.{◌≡◌, ◌||◌, ℕ, true, false, not, 
 ghost use Rattle.bag_algebra.specs.FaultFree.{faultless, items_faultless};
 ghost use Rattle.bag_algebra.specs.declared.query.Query.{Query};
 ghost use Rattle.bag_algebra.specs.declared.query.Query.TheVariants.{Filter, Project};
-ghost use Rattle.contribution.specs.ItemKinds.{column_of};
 ghost use Rattle.query_laws.specs.spines.Spines.{IsSpineOf, is_base, items_behind, spine_over, spine_with, tests_with};
 
 use crate::spines::placing::{placed, placed_items};
-use bag_algebra::{Expr, Item, Query, fault_free, faultless};
-use contribution::kinds;
+use bag_algebra::{Expr, Item, Query, fault_free, faultless, items_faultless};
+use contribution::{column, kinds};
 use null_logic::Operator;
 use perm_values::{Copyable, Kind, List, NoMemory};
 use query_facts::is_closed;
@@ -116,16 +115,6 @@ pub(crate) fn items_behind(
     Ok(items)
 }
 
-/// The column of the own row at the place.
-fn column(place: usize, kind: Kind) -> Item
-    ensures { result ≡ column_of kind place }
-{
-    Item {
-        expr: Expr::Col { level: 0, place },
-        kind,
-    }
-}
-
 /// The spine with one condition more, where that may stand over its test.
 fn filtered(alloc: Global, spine: Spine, condition: &Expr) -> Result<Option<Spine>, NoMemory>
     ensures { IfOk result (λ found. (width : ℕ) (input : Query) →
@@ -201,18 +190,6 @@ fn projected(alloc: Global, spine: Spine, items: &[Item]) -> Result<Option<Spine
         return Err(NoMemory);
     };
     Ok(Some(with_items(spine, made)))
-}
-
-/// Whether no item may fault.
-fn items_faultless(items: &[Item]) -> bool
-    ensures { result ≡ items_faultless items.now }
-{
-    for item in items {
-        if !faultless(&item.expr) {
-            return false;
-        }
-    }
-    true
 }
 
 fn with_items(spine: Spine, made: List<Item>) -> Spine

@@ -69,7 +69,7 @@ pub(crate) fn is_feed(byte: u8) -> bool
     byte == b'\n'
 }
 
-fn begins_character(byte: u8) -> bool
+pub(crate) fn begins_character(byte: u8) -> bool
     ensures { result ≡ begins_character byte }
 {
     byte < 128 || byte >= 192

@@ -4,8 +4,8 @@ ghost use Rattle.bag_algebra.specs.Kinds.{width_of};
 ghost use Rattle.bag_algebra.specs.declared.query.JoinKind.TheVariants.{Inner};
 ghost use Rattle.rewrite_core.specs.rewritings.KeptColumns.{columns_kept, differs_from_first, kept_places, pairs_of, same_as_first};
 
-use bag_algebra::{Expr, JoinKind, Query, width};
-use contribution::{join_on, regroup, same_columns};
+use bag_algebra::{Expr, JoinKind, Query, exact_width};
+use contribution::{inwards, join_on, regroup, same_columns};
 use null_logic::Operator;
 use perm_values::{List, NoMemory};
 use std::alloc::Global;
@@ -19,18 +19,6 @@ pub fn sum(first: usize, second: usize) -> Result<usize, NoMemory>
         Some(total) => Ok(total),
         None => Err(NoMemory),
     }
-}
-
-/// The number of columns. Want of memory comes only where it isn't below `usize::MAX`, at which `width` stays.
-pub fn exact_width(query: &Query) -> Result<usize, NoMemory>
-    ensures columns { IfOk result (λ count. count ≡ width_of query.now) }
-    ensures lacking { IfErr result (λ _. 2 ^ 64 - 1 ≤ width_of query.now) }
-{
-    let count = width(query);
-    if count == usize::MAX {
-        return Err(NoMemory);
-    }
-    Ok(count)
 }
 
 /// Whether so many of the first columns are, one by one, the same as those from a place on, two NULLs included. It fails
@@ -120,12 +108,6 @@ pub fn join_on_first_columns(
         drop(right);
         return Err(NoMemory);
     };
+    // a row that stands on one side alone isn't kept
     join_kept(alloc, inwards(), left, right, same, kept, columns)
-}
-
-/// A row that stands on one side alone isn't kept.
-fn inwards() -> JoinKind
-    ensures { result ≡ Inner }
-{
-    JoinKind::Inner
 }

@@ -2,8 +2,8 @@
 ghost use Rattle.std.specs.Prelude.{IfOk};
 ghost use Rattle.rewrite_core.specs.ColumnsOf.{ColumnsOf};
 
-use crate::rewritings::{exact_width, sum};
-use bag_algebra::Query;
+use crate::rewritings::sum;
+use bag_algebra::{Query, exact_width};
 use perm_values::NoMemory;
 
 /// Columns of a set operation and of its left rewriting, which begins with them.

@@ -6,10 +6,10 @@ ghost use Rattle.bag_algebra.specs.declared.query.Query.TheVariants.{Except, Int
 ghost use Rattle.bag_algebra.specs.declared.query.Query.{Query};
 ghost use Rattle.rewrite_core.specs.rewritings.OpenSublinks.{NoOpenSublink};
 
-use crate::rewritings::{exact_width, join_on_first_columns};
+use crate::rewritings::join_on_first_columns;
 use crate::sets::columns::columns_of;
 use crate::sets::others::{Counted, beside_others, remaining};
-use bag_algebra::Query;
+use bag_algebra::{Query, exact_width};
 use perm_values::{Key, List, NoMemory, both};
 use std::alloc::Global;
 
@@ -65,7 +65,8 @@ pub fn intersect(
     right: &Query,
     right_rewriting: Query,
 ) -> Result<Query, NoMemory>
-    ensures rewrites { IfOk result (λ p. IsRewrite left.now left_rewriting → IsRewrite right.now right_rewriting →
+    ensures rewrites { IfOk result (λ p.
+        IsRewrite left.now left_rewriting → IsRewrite right.now right_rewriting →
         IsRewrite (Intersect all left.now right.now) p) }
     ensures none_open { IfOk result (λ p. NoOpenSublink left_rewriting → NoOpenSublink right_rewriting →
         NoOpenSublink p) }

@@ -6,8 +6,9 @@ use Rattle.perm_values.specs.declared.value.Value.{Value}
 use Rattle.perm_values.specs.Rows.{picked}
 use Rattle.perm_values.specs.declared.kind.Kind.TheVariants.{Boolean}
 use Rattle.perm_values.specs.declared.value.Value.TheVariants.{Null}
+use Rattle.perm_values.proofs.Steps.{by}
 use Rattle.bag_algebra.proofs.Members.{IsIn, in-filter, in-member}
-use Rattle.bag_algebra.proofs.Outcomes.{bad-not_good}
+use Rattle.bag_algebra.proofs.Outcomes.{bad-not_good, mapped-is}
 use Rattle.bag_algebra.proofs.TablesRead.{reads_among-itself, reads_among-onward}
 use Rattle.bag_algebra.proofs.Truths.{both-true}
 use Rattle.bag_algebra.proofs.Widths.{place_kinds-append, places_width}
@@ -40,7 +41,6 @@ use Rattle.query_laws.proofs.JoinLists.{join-lists}
 use Rattle.query_laws.proofs.PairedLists.{none-pass}
 use Rattle.query_laws.specs.ListsOfNodes as law
 use Rattle.query_laws.specs.SublinkLists.{EachContributes, InAnswer}
-use Rattle.rewrite_core.proofs.Faults.{good-mapped}
 use Rattle.rewrite_core.proofs.FlatRows.{Flattened, beside-flattened, flattened}
 use Rattle.rewrite_core.proofs.JoinedOutcomes.{answer-listed}
 use Rattle.rewrite_core.proofs.KeptRows.{flat-all_empty, flat-append, list-width, nulls-append}
@@ -53,7 +53,6 @@ use Rattle.rewrite_sublink.proofs.joins.PairColumns.{Widths, five, pair-columns,
 use Rattle.rewrite_sublink.proofs.joins.SideRows.{AllRows, IsAlone, PairParts, RowParts, Within, bad-alone, blanked, formed-alone, good-alone, kinds-alone, parts_same, plain-alone, tables-alone}
 use Rattle.rewrite_sublink.specs.joins.ByParts.{by_parts, left_side, places_in_pair, right_side, row_width, with_alone}
 use Rattle.rewrite_sublink.specs.declared.joins.sides.Side.{Side}
-use Rattle.rewrite_sublink.proofs.LongerRows.{by}
 
 -- ---- outcomes
 
@@ -775,7 +774,7 @@ module _ (left left_rewriting right right_rewriting pairs : Query) (condition : 
           Beside (witnesses right db env) vs ys → Beside (witnesses inner db env) ms zs → Answer kind
       answer-good kind us xs vs ys ms zs left_good lefts_good right_good rights_good inner_good pairs_good b d q =
           let made = reached us xs vs ys ms zs left_good right_good inner_good lefts_good rights_good pairs_good b d q kind in
-          let found = good-mapped _ (met_pairs on us vs) ms (inner_is us xs vs ys ms zs left_good right_good inner_good lefts_good rights_good pairs_good b d q) in
+          let found = mapped-is _ (met_pairs on us vs) ms (inner_is us xs vs ys ms zs left_good right_good inner_good lefts_good rights_good pairs_good b d q) in
           let adding : Bag → Bag = λ pairs. pairs
           ++ cond (keeps_left kind) (map (λ u. u ++ nulls (width_of right)) (unmatched_left on us vs)) []
           ++ cond (keeps_right kind) (map (λ v. nulls (width_of left) ++ v) (unmatched_right on us vs)) [] in

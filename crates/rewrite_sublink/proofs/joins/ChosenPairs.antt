@@ -3,7 +3,9 @@ use Rattle.std.proofs.Common.{◌≡◌, ◌↔◌, ℕ, true, List, [], ◌∷�
 use Rattle.perm_values.specs.declared.kind.Kind.{Kind}
 use Rattle.perm_values.specs.declared.kind.Kind.TheVariants.{Boolean}
 use Rattle.perm_values.specs.declared.value.Value.{Value}
+use Rattle.perm_values.proofs.Steps.{by}
 use Rattle.bag_algebra.proofs.Members.{IsIn}
+use Rattle.bag_algebra.proofs.Outcomes.{nothing-behind}
 use Rattle.bag_algebra.proofs.TablesRead.{reads_among-itself, reads_among-onward}
 use Rattle.bag_algebra.specs.Bags.{Row, Bag}
 use Rattle.bag_algebra.specs.built.Forms.{AllSubsForm, EachTable-Filter, EachTable-Join, WellFormed-Filter, WellFormed-Join, subs_kinds}
@@ -13,7 +15,7 @@ use Rattle.bag_algebra.specs.Fits.{bag_fits}
 use Rattle.bag_algebra.specs.Kinds.{kinds_of, place_kinds, shape, width_of}
 use Rattle.bag_algebra.specs.Meaning.{Database, meaning, witnesses, condition_on}
 use Rattle.bag_algebra.specs.Means.{Witness, good_rows, is_met, joined_rows, kept, met_pairs}
-use Rattle.bag_algebra.specs.Outcome.{Outcome, Good, Bad, and_then, both, both_then, gather, mapped}
+use Rattle.bag_algebra.specs.Outcome.{Outcome, Good, Bad, and_then, both, both_then, gather}
 use Rattle.bag_algebra.specs.Rewriting.{IsRewrite}
 use Rattle.bag_algebra.specs.TablesRead.{EachTable, ReadsAmong, tables_read}
 use Rattle.bag_algebra.specs.WellFormed.{HasKind, WellFormed}
@@ -34,7 +36,6 @@ use Rattle.query_laws.specs.SublinkLists.{EachContributes, InAnswer, no_sublink}
 use Rattle.rewrite_core.specs.rewritings.Rewritten.{Rewritten}
 use Rattle.rewrite_core.proofs.RuleRows.{beside-from_rewrite, rows-from_beside}
 use Rattle.rewrite_core.proofs.Unlinked.{none-contribute}
-use Rattle.rewrite_sublink.proofs.LongerRows.{by}
 
 -- ---- what is gathered, part by part
 
@@ -68,10 +69,6 @@ module _ (condition : Row → Outcome Value) where
   chosen-pairs (u ∷ us) vs =
       gather-append (kept condition) (map (λ v. u ++ v) vs) (every_pair us vs)
       ∙ (λ i. both (λ xs ys. xs ++ ys) (gather-beside u vs i) (chosen-pairs us vs i))
-
-nothing-behind : (o : Outcome Bag) → o ≡ mapped (λ pairs. pairs ++ [] ++ []) o
-nothing-behind (Good bag) = ap Good (sym (append-nil (bag ++ []) ∙ append-nil bag))
-nothing-behind (Bad f) = refl
 
 and_then-both_then : {X Y : Type 0} (o : Outcome X) (s : Outcome Y) (make : X → Y → Outcome Bag) (next : Bag → Outcome Bag) →
     and_then (both_then o s make) next ≡ both_then o s (λ x y. and_then (make x y) next)

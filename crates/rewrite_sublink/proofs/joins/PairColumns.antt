@@ -4,7 +4,7 @@ use Rattle.std.proofs.lemmas.List.{map-append}
 use Rattle.std.proofs.lemmas.List.Elements.{All-append}
 use Rattle.std.proofs.lemmas.List.FromFn.{length-range_with_len}
 use Rattle.std.specs.List.{range_with_len}
-use Rattle.bag_algebra.specs.WellFormed.{PlacesIn}
+use Rattle.perm_values.specs.Rows.{PlacesWithin}
 use Rattle.rewrite_core.proofs.Places.{at-between, within-range}
 use Rattle.rewrite_core.proofs.RowColumns.{behind}
 use Rattle.rewrite_sublink.specs.joins.ByParts.{columns_of_pair, places_in_pair, row_width}
@@ -140,17 +140,17 @@ as_many side =
     ∙ sym (length-append (range_with_len (row + side.before) side.own) (range_with_len (row + side.before + side.own + side.between) side.added))
 
 module _ (side : Side) (width : ℕ) (wide : width ≡ row_width side + pair_width side) where
-  pub row-within : PlacesIn width (range_with_len 0 (row_width side))
+  pub row-within : PlacesWithin width (range_with_len 0 (row_width side))
   row-within = within-range width 0 (row_width side) (omega (arith, wide))
 
-  pub part-within : PlacesIn width (places_in_pair (row_width side) side)
+  pub part-within : PlacesWithin width (places_in_pair (row_width side) side)
   part-within =
       let row = row_width side in
       All-append (λ place. place < width) (range_with_len (row + side.before) side.own) (range_with_len (row + side.before + side.own + side.between) side.added)
       (within-range width (row + side.before) side.own (omega (arith, wide)))
       (within-range width (row + side.before + side.own + side.between) side.added (omega (arith, wide)))
 
-  pub pair-within : PlacesIn width (columns_of_pair side)
+  pub pair-within : PlacesWithin width (columns_of_pair side)
   pair-within =
       let row = row_width side in
       let P : ℕ → Type 0 = λ place. place < width in

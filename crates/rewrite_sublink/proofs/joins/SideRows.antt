@@ -1,5 +1,5 @@
 -- The pairs with the rows of a side that stand in none of them: their form, their faults, and which rows they are.
-use Rattle.std.proofs.Common.{◌≡◌, ◌⊎◌, inl, inr, ℕ, ◌+◌, Bool, true, false, not, cond, List, [], ◌∷◌, ◌++◌, map, length, refl, sym, ap, ◌∙◌, subst, length-append, true≢false}
+use Rattle.std.proofs.Common.{◌≡◌, ◌⊎◌, inl, inr, ℕ, ◌+◌, true, not, cond, List, [], ◌∷◌, ◌++◌, map, length, refl, sym, ap, ◌∙◌, subst, length-append, true≢false}
 use Rattle.std.specs.Prelude.{⊤}
 use Rattle.std.specs.List.{list_any, range_with_len}
 use Rattle.perm_values.specs.Rows.{picked, same_row}
@@ -9,6 +9,7 @@ use Rattle.perm_values.specs.declared.kind.Kind.TheVariants as kind
 use Rattle.perm_values.specs.declared.value.Value.{Value}
 use Rattle.perm_values.specs.declared.value.Value.TheVariants.{Boolean, Null}
 use Rattle.bag_algebra.proofs.Members.{IsIn, from-filter, from-map, in-filter, in-map}
+use Rattle.bag_algebra.proofs.TruthValues.{holds-boolean}
 use Rattle.bag_algebra.proofs.Truths.{both-true, left-true, right-true}
 use Rattle.bag_algebra.specs.Bags.{Row, Bag, nulls, once}
 use Rattle.bag_algebra.specs.built.Openings.{rows-with_lists}
@@ -30,9 +31,9 @@ use Rattle.contribution.proofs.NodeQueries.{formed-pairs, meaning-pairs, plain-p
 use Rattle.contribution.proofs.NoRowLost.{Joined, pair, left_alone, right_alone, from-joined_rows}
 use Rattle.contribution.proofs.SameTests.{conjunction-formed, tests-value}
 use Rattle.contribution.proofs.SetsOfRows.{Included}
-use Rattle.query_laws.proofs.Joined.{same_parts}
+use Rattle.query_laws.proofs.Joined.{same_parts, length-nulls}
 use Rattle.query_laws.proofs.PairedLists.{none-pass, none_passes}
-use Rattle.rewrite_core.proofs.KeptRows.{length-nulls, nulls-append}
+use Rattle.rewrite_core.proofs.KeptRows.{nulls-append}
 use Rattle.rewrite_sublink.proofs.joins.PairColumns.{Widths, arranged, as_many, five, length-five, pair-columns, pair-within, pair_width, part-within, row-columns, row-within}
 use Rattle.rewrite_sublink.specs.joins.ByParts.{columns_of_pair, is_part, marked, places_in_pair, row_width, with_alone}
 use Rattle.rewrite_sublink.specs.declared.joins.sides.Side.{Side}
@@ -100,10 +101,6 @@ nulls-widths side = record {
   added_is = length-nulls side.added;
   behind_is = length-nulls side.behind;
 }
-
-met-is : (b : Bool) → is_met (Good (Boolean b)) ≡ b
-met-is true = refl
-met-is false = refl
 
 gather-good : {X Y : Type 0} (f : X → Outcome (List Y)) → ((x : X) → (ys : List Y) × (f x ≡ Good ys)) → (xs : List X) → (all : List Y) × (gather f xs ≡ Good all)
 gather-good f good [] = ([], refl)
@@ -198,7 +195,7 @@ module _ (side : Side) (rewriting pairs : Query) where
     on-is u = tests-value u env [] 0 firsts others (as_many side)
 
     met-where : (u : Row) → is_met (on u) ≡ same_row (picked firsts u) (picked others u)
-    met-where u = ap is_met (on-is u) ∙ met-is (same_row (picked firsts u) (picked others u))
+    met-where u = ap is_met (on-is u) ∙ holds-boolean (same_row (picked firsts u) (picked others u))
 
     joined-good : (xs zs : Bag) → (bag : Bag) × (joined xs zs ≡ Good bag)
     joined-good xs zs =

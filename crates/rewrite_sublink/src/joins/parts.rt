@@ -12,7 +12,7 @@ ghost use Rattle.rewrite_sublink.specs.joins.ByParts.{by_parts, marked, with_alo
 
 use crate::joins::sides::{Side, columns_of_pair, is_part, left_side, right_side};
 use bag_algebra::{Expr, JoinKind, Query};
-use contribution::{join_on, regroup};
+use contribution::{join_on, outwards, regroup};
 use perm_values::{Copyable, NoMemory, both};
 use std::alloc::Global;
 
@@ -153,12 +153,6 @@ fn marked(alloc: Global, side: Side, rewriting: Query, pairs: Query) -> Result<Q
         drop(test);
         return Err(NoMemory);
     };
+    // a row that stands in no pair stands beside NULLs
     join_on(alloc, outwards(), rows, pairs, test)
-}
-
-/// A row that stands in no pair stands beside NULLs.
-fn outwards() -> JoinKind
-    ensures { result ≡ Left }
-{
-    JoinKind::Left
 }

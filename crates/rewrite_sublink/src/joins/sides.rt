@@ -2,10 +2,10 @@
 ghost use Rattle.std.specs.Prelude.{◌≡◌, IfOk};
 ghost use Rattle.rewrite_sublink.specs.joins.ByParts.{columns_of_pair, is_part, left_side, places_in_pair, right_side};
 
-use bag_algebra::{Expr, Query};
+use bag_algebra::{Expr, Query, exact_width};
 use contribution::same_columns;
 use perm_values::{List, NoMemory};
-use rewrite_core::{exact_width, sum};
+use rewrite_core::sum;
 use std::alloc::Global;
 
 /// The columns of a pair: those before the side's own, these, those between them and the side's provenance, this, and those

@@ -14,7 +14,7 @@ ghost use Rattle.rewrite_sublink.specs.SubRewritings.{SubsRewritten};
 use crate::joins::parts::join_by_parts;
 use crate::rules::filter_with;
 use bag_algebra::{Expr, JoinKind, Query, Sublink};
-use contribution::always;
+use contribution::{always, inwards};
 use perm_values::{Copyable, List, NoMemory, both};
 use rewrite_core::join;
 use std::alloc::Global;
@@ -153,9 +153,11 @@ fn pairs_rewritten(
     requires left { IsRewrite left.now left_rewriting.now }
     requires right { IsRewrite right.now right_rewriting.now }
     ensures rewrites { IfOk result (λ p. IsRewrite (Join Inner left.now right.now always []) p) }
-    ensures none_open { IfOk result (λ p. NoOpenSublink left_rewriting.now → NoOpenSublink right_rewriting.now →
-        NoOpenSublink p) }
+    ensures none_open { IfOk result (λ p.
+        NoOpenSublink left_rewriting.now → NoOpenSublink right_rewriting.now → NoOpenSublink p) }
 {
+    // the pairs on which the sublinks are evaluated are those of an inner join, whatever the kind: beside candidates a row of a
+    // kept side would be unmatched with one and not with another
     let (left_copy, right_copy) = both(left_rewriting.copy(alloc), right_rewriting.copy(alloc))?;
     join(
         alloc,
@@ -166,12 +168,4 @@ fn pairs_rewritten(
         right_copy,
         &always(),
     )
-}
-
-/// The pairs on which the sublinks are evaluated are those of an inner join, whatever the kind: beside candidates a row of a
-/// kept side would be unmatched with one and not with another.
-fn inwards() -> JoinKind
-    ensures { result ≡ Inner }
-{
-    JoinKind::Inner
 }

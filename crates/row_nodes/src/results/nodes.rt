@@ -2,11 +2,10 @@
 ghost use Rattle.std.specs.Prelude.{IfOk, take};
 ghost use Rattle.perm_values.specs.Rows.{printed_cmp};
 ghost use Rattle.bag_algebra.specs.Bags.{Bag, except_of, intersect_of, once, sorted, union_of};
-ghost use Rattle.bag_algebra.specs.Meaning.{arguments_on};
+ghost use Rattle.bag_algebra.specs.Meaning.{arguments_on, functions_of};
 ghost use Rattle.bag_algebra.specs.Means.{grouped};
 ghost use Rattle.bag_algebra.specs.Outcome.{Good, Outcome, and_then, both, mapped};
 ghost use Rattle.row_values.specs.Answers.{Gives};
-ghost use Rattle.row_values.specs.Columns.{functions_of};
 ghost use Rattle.row_nodes.specs.results.Screened.{GivesLeft, HasFlags};
 
 use crate::results::screened::Screened;

@@ -1,10 +1,9 @@
 //! Classes of rows with the same group values, in the order of their first rows.
 ghost use Rattle.std.specs.Prelude.{◌≡◌, IfOk, [], ◌∷◌};
-ghost use Rattle.perm_values.specs.Rows.{picked};
 ghost use Rattle.bag_algebra.specs.Means.{class_keys};
 ghost use Rattle.row_values.specs.Groups.{IsClassed};
 
-use crate::expression::value_or_null;
+use crate::expression::values_at;
 use indexmap::IndexSet;
 use perm_values::{List, NoMemory, Row};
 use std::alloc::Global;
@@ -23,7 +22,7 @@ pub(crate) fn classes_of(alloc: Global, rows: &[Row], groups: &[usize]) -> Resul
     let mut keys = keys_of_no_row(alloc, groups)?;
     let mut numbers = List::with_room(alloc, rows.len())?;
     for row in rows {
-        let key = group_values(alloc, row, groups)?;
+        let key = values_at(alloc, row, groups)?;
         let (number, _is_new) = keys.insert_full(key)?;
         numbers.push(number)?;
     }
@@ -38,15 +37,4 @@ fn keys_of_no_row(alloc: Global, groups: &[usize]) -> Result<IndexSet<Row>, NoMe
         keys.insert(Row::new(alloc))?;
     }
     Ok(keys)
-}
-
-/// The values at the places; a place out of range reads NULL.
-fn group_values(alloc: Global, row: &Row, groups: &[usize]) -> Result<Row, NoMemory>
-    ensures { IfOk result (λ values. values ≡ picked groups.now row.now) }
-{
-    let mut values = Row::with_room(alloc, groups.len())?;
-    for group in groups {
-        values.push(value_or_null(alloc, row.as_slice(), *group)?)?;
-    }
-    Ok(values)
 }

@@ -1,11 +1,11 @@
 //! The rows of an Aggregate.
 ghost use Rattle.std.specs.Prelude.{◌≡◌, ◌++◌, List, map};
 ghost use Rattle.bag_algebra.specs.Bags.{Row};
-ghost use Rattle.bag_algebra.specs.Meaning.{arguments_on};
+ghost use Rattle.bag_algebra.specs.Meaning.{arguments_on, functions_of};
 ghost use Rattle.bag_algebra.specs.Means.{grouped};
 ghost use Rattle.bag_algebra.specs.Outcome.{Outcome, each, mapped};
 ghost use Rattle.row_values.specs.Answers.{Gives};
-ghost use Rattle.row_values.specs.Columns.{functions_of, class_value, MakesRows};
+ghost use Rattle.row_values.specs.Columns.{class_value, MakesRows};
 
 use crate::error::ExecError;
 use crate::groups::aggregate::aggregated;

@@ -2,6 +2,7 @@
 use Rattle.std.specs.Prelude.{◌≡◌, cond, List, [], ◌∷◌, ◌++◌}
 use Rattle.std.specs.List.{flat_map}
 use Rattle.std.proofs.Common.{refl, sym, ap, ◌∙◌}
+use Rattle.null_logic.specs.Operators.{is_and}
 use Rattle.null_logic.specs.declared.operator.Operator.{Operator}
 use Rattle.null_logic.specs.declared.truth.Truth.{Truth}
 use Rattle.bag_algebra.specs.built.Openings.{row_of_parts, Chain-is, Case-is, IsNull-is, IsTruth-is, Same-is}
@@ -10,7 +11,7 @@ use Rattle.bag_algebra.specs.declared.expr.ChainStep.{ChainStep}
 use Rattle.bag_algebra.specs.declared.expr.Expr.{Expr}
 use Rattle.bag_algebra.specs.declared.expr.Expr.TheBlock.{shape-the_row-Expr-0, hidden-the_row-Expr-0}
 use Rattle.bag_algebra.specs.declared.expr.Expr.TheVariants.{Op, Chain, Case, IsNull, IsTruth, Same}
-use Rattle.simpler_laws.specs.Conjuncts.{is_and, conjuncts, parts_conjuncts}
+use Rattle.simpler_laws.specs.Conjuncts.{conjuncts, parts_conjuncts}
 
 abbrev pub all_conjuncts : List Expr → List Expr
 all_conjuncts parts = flat_map conjuncts parts

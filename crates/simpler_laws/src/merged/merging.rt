@@ -10,7 +10,7 @@ ghost use Rattle.simpler_laws.specs.merged.Substituted.{ItemsSubstituted, IsMerg
 
 use crate::lowering::own_place;
 use crate::merged::substituting::substituted;
-use bag_algebra::{Expr, Item, Query, Sublink, faultless};
+use bag_algebra::{Expr, Item, Query, Sublink, items_faultless};
 use perm_values::{Copyable, List, NoMemory, three};
 use std::alloc::Global;
 
@@ -113,17 +113,6 @@ fn is_calm(items: &[Item], subs: &[Sublink]) -> bool
     ensures { IsTrue result → (subs.now ≡ []) × IsTrue (items_faultless items.now) }
 {
     subs.is_empty() && items_faultless(items)
-}
-
-fn items_faultless(items: &[Item]) -> bool
-    ensures { result ≡ items_faultless items.now }
-{
-    for item in items {
-        if !faultless(&item.expr) {
-            return false;
-        }
-    }
-    true
 }
 
 /// The items over the input of the lower ones.

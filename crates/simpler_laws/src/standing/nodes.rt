@@ -1,24 +1,16 @@
 //! Nodes over what stands for their inputs and for their sublinks' queries. They take the results of the calls that make
 //! these, so that no query is at hand where one of those calls fails.
-ghost use Rattle.std.specs.Prelude.{◌≡◌, List, IfOk};
+ghost use Rattle.std.specs.Prelude.{List, IfOk};
 ghost use Rattle.bag_algebra.specs.Rewriting.{Stands};
-ghost use Rattle.bag_algebra.specs.declared.query.Query.TheVariants.{Table, Filter, Project, Join, Apply, Union, Intersect, Except, Aggregate, Limit};
+ghost use Rattle.bag_algebra.specs.declared.query.Query.TheVariants.{Filter, Project, Join, Apply, Union, Intersect, Except, Aggregate, Limit};
 ghost use Rattle.bag_algebra.specs.declared.query.Query.{Query};
 ghost use Rattle.bag_algebra.specs.declared.query.Sublink.{Sublink};
 ghost use Rattle.query_laws.specs.Standing.{SubsStand};
 ghost use Rattle.simpler_laws.specs.standing.Made.{IsMade, IsMadeOfBoth};
 
 use bag_algebra::{Aggr, Expr, Item, JoinKind, Query, Sublink};
-use perm_values::{Copyable, Key, Kind, List, NoMemory, both, four, three};
+use perm_values::{Copyable, Key, List, NoMemory, both, four, three};
 use std::alloc::Global;
-
-/// The table of this identity. It fails only for want of memory.
-pub fn table(alloc: Global, id: u64, kinds: &List<Kind>) -> Result<Query, NoMemory>
-    ensures { IfOk result (λ p. p ≡ Table id kinds.now) }
-{
-    let kinds = kinds.copy(alloc)?;
-    Ok(Query::Table { id, kinds })
-}
 
 /// What stands for a Filter over what stands for its input and its sublinks. It fails where one of these failed, and for want of memory.
 pub fn filter_standing(

@@ -1,11 +1,12 @@
 //! Lists of sublinks, which grow by the results of calls.
-ghost use Rattle.std.specs.Prelude.{◌≡◌, ◌++◌, [], ◌∷◌, List, IfOk, OnOk};
+ghost use Rattle.std.specs.Prelude.{◌++◌, [], ◌∷◌, List, IfOk, OnOk};
 ghost use Rattle.bag_algebra.specs.Rewriting.{Stands};
 ghost use Rattle.bag_algebra.specs.declared.query.Sublink.{Sublink};
 ghost use Rattle.query_laws.specs.Standing.{SubsStand};
 
 use bag_algebra::{Query, Sublink};
-use perm_values::{Copyable, List, NoMemory};
+use contribution::sublink_over;
+use perm_values::{List, NoMemory};
 use std::alloc::Global;
 
 /// Adds the sublink over what stands for its query. It fails where that failed, and for want of memory.
@@ -21,21 +22,4 @@ pub fn add_standing(
     let query = query?;
     let other = sublink_over(alloc, sub, query)?;
     others.push(other)
-}
-
-/// The sublink over that query.
-fn sublink_over(alloc: Global, sub: &Sublink, query: Query) -> Result<Sublink, NoMemory>
-    ensures kind_kept { IfOk result (λ other. other.kind ≡ sub.now.kind) }
-    ensures tested_kept { IfOk result (λ other. other.tested ≡ sub.now.tested) }
-    ensures over { IfOk result (λ other. other.query ≡ query) }
-{
-    let Ok(tested) = sub.tested.copy(alloc) else {
-        drop(query);
-        return Err(NoMemory);
-    };
-    Ok(Sublink {
-        kind: sub.kind,
-        tested,
-        query,
-    })
 }

@@ -1,8 +1,6 @@
 -- A query is well formed under all outer kinds that agree on the columns that it reads.
 use Rattle.std.proofs.Common.{◌≡◌, subst, ℕ, zero, suc, ◌≤◌, ◌<◌, max, cond, List, [], ◌∷◌, ◌++◌, length, Option, Some, None, refl, sym, ◌∙◌, arith}
-use Rattle.std.specs.Prelude.{◌==◌, slice_index_or}
-use Rattle.std.proofs.lemmas.Bool.Decides.{nat_tests}
-use Rattle.std.proofs.Math.Nat.{le-max_left, le-max_right}
+use Rattle.std.specs.Prelude.{slice_index_or}
 use Rattle.perm_values.specs.declared.kind.Kind.{Kind}
 use Rattle.perm_values.specs.declared.kind.Kind.TheVariants.{Integer, Boolean}
 use Rattle.bag_algebra.proofs.Forms.{op_form-kept}
@@ -20,26 +18,17 @@ use Rattle.bag_algebra.specs.declared.query.Query.TheVariants.{Table, Single}
 use Rattle.bag_algebra.specs.declared.query.SubKind.{SubKind}
 use Rattle.bag_algebra.specs.declared.query.SubKind.TheVariants as sub
 use Rattle.query_facts.specs.reached.Reach.{greatest, column_reach, expr_reach, parts_reach, steps_reach, arms_reach, option_reach, items_reach, aggregates_reach, query_reach, subs_reach}
-
--- what is within a number where the greater of two is
-left : (a b n : ℕ) → max a b ≤ n → a ≤ n
-left a b n h = omega (arith, le-max_left a b)
-
-right : (a b n : ℕ) → max a b ≤ n → b ≤ n
-right a b n h = omega (arith, le-max_right a b)
+use Rattle.query_facts.proofs.Alike.{max-left, max-right, one_level}
 
 -- what is within a number where the greatest of all is
 one_within : {X : Type 0} (f : X → ℕ) (xs : List X) (n : ℕ) → greatest f xs ≤ n → (k : ℕ) (d : X) → k < length xs → f (slice_index_or xs k d) ≤ n
 one_within f [] n h k d inside = absurd (omega arith)
-one_within f (x ∷ xs) n h zero d inside = left (f x) (greatest f xs) n h
-one_within f (x ∷ xs) n h (suc k) d inside = one_within f xs n (right (f x) (greatest f xs) n h) k d (omega arith)
+one_within f (x ∷ xs) n h zero d inside = max-left (f x) (greatest f xs) n h
+one_within f (x ∷ xs) n h (suc k) d inside = one_within f xs n (max-right (f x) (greatest f xs) n h) k d (omega arith)
 
 -- the scopes have the same kinds, but for what is behind the first n columns of the scope at the level
 abbrev pub AlikeKinds : ℕ → ℕ → List (List Kind) → List (List Kind) → Type 0
 AlikeKinds level n scopes others = (own place : ℕ) → column_reach own place level ≤ n → column_kind scopes own place ≡ column_kind others own place
-
-one_level : (own level : ℕ) → (suc own == suc level) ≡ (own == level)
-one_level own level = grind (arith, nat_tests)
 
 one_further : (level n : ℕ) (kinds : List Kind) (scopes others : List (List Kind)) → AlikeKinds level n scopes others →
     AlikeKinds (suc level) n (kinds ∷ scopes) (kinds ∷ others)
@@ -58,15 +47,15 @@ module _ (level n : ℕ) (scopes others : List (List Kind)) (same : AlikeKinds l
         record {
           number = h.number;
           level = h.level;
-          first = expr-alike first subs Integer (left (expr_reach first level) (steps_reach steps level) n w) h.first;
-          steps = steps-alike steps subs (right (expr_reach first level) (steps_reach steps level) n w) h.steps;
+          first = expr-alike first subs Integer (max-left (expr_reach first level) (steps_reach steps level) n w) h.first;
+          steps = steps-alike steps subs (max-right (expr_reach first level) (steps_reach steps level) n w) h.steps;
           gives = h.gives;
         }
     expr-alike (CaseOf _ arms otherwise) subs kind w h =
         record {
           number = h.number;
-          arms = arms-alike arms subs kind (left (arms_reach arms level) (expr_reach otherwise level) n w) h.arms;
-          otherwise = expr-alike otherwise subs kind (right (arms_reach arms level) (expr_reach otherwise level) n w) h.otherwise;
+          arms = arms-alike arms subs kind (max-left (arms_reach arms level) (expr_reach otherwise level) n w) h.arms;
+          otherwise = expr-alike otherwise subs kind (max-right (arms_reach arms level) (expr_reach otherwise level) n w) h.otherwise;
         }
     expr-alike (Sub number) subs kind w h = h
     expr-alike (IsNullOf part) subs kind w h =
@@ -77,8 +66,8 @@ module _ (level n : ℕ) (scopes others : List (List Kind)) (same : AlikeKinds l
           parts = record {
             shared = h.parts.shared;
             parts = (
-              expr-alike first subs h.parts.shared (left (expr_reach first level) (expr_reach second level) n w) h.parts.parts.0,
-              expr-alike second subs h.parts.shared (right (expr_reach first level) (expr_reach second level) n w) h.parts.parts.1,
+              expr-alike first subs h.parts.shared (max-left (expr_reach first level) (expr_reach second level) n w) h.parts.parts.0,
+              expr-alike second subs h.parts.shared (max-right (expr_reach first level) (expr_reach second level) n w) h.parts.parts.1,
             );
           };
           gives = h.gives;
@@ -88,26 +77,26 @@ module _ (level n : ℕ) (scopes others : List (List Kind)) (same : AlikeKinds l
         PartsHave others subs parts kind
     parts-alike end_of-Expr subs kind w h = h
     parts-alike (more_of-Expr part parts) subs kind w h = (
-      expr-alike part subs kind (left (expr_reach part level) (parts_reach parts level) n w) h.0,
-      parts-alike parts subs kind (right (expr_reach part level) (parts_reach parts level) n w) h.1,
+      expr-alike part subs kind (max-left (expr_reach part level) (parts_reach parts level) n w) h.0,
+      parts-alike parts subs kind (max-right (expr_reach part level) (parts_reach parts level) n w) h.1,
     )
 
     steps-alike : {m : _} (steps : Row_of-ChainStep m) (subs : List Kind) → steps_reach steps level ≤ n → StepsHave scopes subs steps → StepsHave others subs steps
     steps-alike end_of-ChainStep subs w h = h
     steps-alike (more_of-ChainStep operation part steps) subs w h = (
-      expr-alike part subs Integer (left (expr_reach part level) (steps_reach steps level) n w) h.0,
-      steps-alike steps subs (right (expr_reach part level) (steps_reach steps level) n w) h.1,
+      expr-alike part subs Integer (max-left (expr_reach part level) (steps_reach steps level) n w) h.0,
+      steps-alike steps subs (max-right (expr_reach part level) (steps_reach steps level) n w) h.1,
     )
 
     arms-alike : {m : _} (arms : Row_of-Arm m) (subs : List Kind) (kind : Kind) → arms_reach arms level ≤ n → ArmsHave scopes subs arms kind →
         ArmsHave others subs arms kind
     arms-alike end_of-Arm subs kind w h = h
     arms-alike (more_of-Arm condition arm arms) subs kind w h =
-        let own = left (max (expr_reach condition level) (expr_reach arm level)) (arms_reach arms level) n w in
+        let own = max-left (max (expr_reach condition level) (expr_reach arm level)) (arms_reach arms level) n w in
         record {
-          condition = expr-alike condition subs Boolean (left (expr_reach condition level) (expr_reach arm level) n own) h.condition;
-          arm = expr-alike arm subs kind (right (expr_reach condition level) (expr_reach arm level) n own) h.arm;
-          others = arms-alike arms subs kind (right (max (expr_reach condition level) (expr_reach arm level)) (arms_reach arms level) n w) h.others;
+          condition = expr-alike condition subs Boolean (max-left (expr_reach condition level) (expr_reach arm level) n own) h.condition;
+          arm = expr-alike arm subs kind (max-right (expr_reach condition level) (expr_reach arm level) n own) h.arm;
+          others = arms-alike arms subs kind (max-right (max (expr_reach condition level) (expr_reach arm level)) (arms_reach arms level) n w) h.others;
         }
 
   items-alike : (items : List Item) (subs : List Kind) → items_reach items level ≤ n → ItemsForm scopes subs items → ItemsForm others subs items
@@ -162,71 +151,71 @@ mutual
       record { input = formed-alike input level n outer others w same h.input; in_range = h.in_range; named = h.named }
   formed-alike (FilterOf input condition _ subs) level n outer others w same h =
       let beyond = suc level in
-      let own = left (max (query_reach input beyond) (expr_reach condition beyond)) (subs_reach subs beyond) n w in
+      let own = max-left (max (query_reach input beyond) (expr_reach condition beyond)) (subs_reach subs beyond) n w in
       let further = one_further level n (kinds_of input) outer others same in
       record {
-        input = formed-alike input level n outer others (left (query_reach input beyond) (expr_reach condition beyond) n own) same h.input;
-        subs = subs-alike subs level n (kinds_of input) outer others (right (max (query_reach input beyond) (expr_reach condition beyond)) (subs_reach subs beyond) n w) same h.subs;
+        input = formed-alike input level n outer others (max-left (query_reach input beyond) (expr_reach condition beyond) n own) same h.input;
+        subs = subs-alike subs level n (kinds_of input) outer others (max-right (max (query_reach input beyond) (expr_reach condition beyond)) (subs_reach subs beyond) n w) same h.subs;
         condition = expr-alike beyond n (kinds_of input ∷ outer) (kinds_of input ∷ others) further condition _ Boolean
-            (right (query_reach input beyond) (expr_reach condition beyond) n own) h.condition;
+            (max-right (query_reach input beyond) (expr_reach condition beyond) n own) h.condition;
       }
   formed-alike (ProjectOf input items _ subs) level n outer others w same h =
       let beyond = suc level in
-      let own = left (max (query_reach input beyond) (items_reach items beyond)) (subs_reach subs beyond) n w in
+      let own = max-left (max (query_reach input beyond) (items_reach items beyond)) (subs_reach subs beyond) n w in
       let further = one_further level n (kinds_of input) outer others same in
       record {
-        input = formed-alike input level n outer others (left (query_reach input beyond) (items_reach items beyond) n own) same h.input;
-        subs = subs-alike subs level n (kinds_of input) outer others (right (max (query_reach input beyond) (items_reach items beyond)) (subs_reach subs beyond) n w) same h.subs;
+        input = formed-alike input level n outer others (max-left (query_reach input beyond) (items_reach items beyond) n own) same h.input;
+        subs = subs-alike subs level n (kinds_of input) outer others (max-right (max (query_reach input beyond) (items_reach items beyond)) (subs_reach subs beyond) n w) same h.subs;
         items = items-alike beyond n (kinds_of input ∷ outer) (kinds_of input ∷ others) further items _
-            (right (query_reach input beyond) (items_reach items beyond) n own) h.items;
+            (max-right (query_reach input beyond) (items_reach items beyond) n own) h.items;
       }
   formed-alike (JoinOf kind first second condition _ subs) level n outer others w same h =
       let beyond = suc level in
       let inputs = max (query_reach first beyond) (query_reach second beyond) in
-      let own = left (max inputs (expr_reach condition beyond)) (subs_reach subs beyond) n w in
-      let sides = left inputs (expr_reach condition beyond) n own in
+      let own = max-left (max inputs (expr_reach condition beyond)) (subs_reach subs beyond) n w in
+      let sides = max-left inputs (expr_reach condition beyond) n own in
       let kinds = kinds_of first ++ kinds_of second in
       record {
-        left = formed-alike first level n outer others (left (query_reach first beyond) (query_reach second beyond) n sides) same h.left;
-        right = formed-alike second level n outer others (right (query_reach first beyond) (query_reach second beyond) n sides) same h.right;
-        subs = subs-alike subs level n kinds outer others (right (max inputs (expr_reach condition beyond)) (subs_reach subs beyond) n w) same h.subs;
+        left = formed-alike first level n outer others (max-left (query_reach first beyond) (query_reach second beyond) n sides) same h.left;
+        right = formed-alike second level n outer others (max-right (query_reach first beyond) (query_reach second beyond) n sides) same h.right;
+        subs = subs-alike subs level n kinds outer others (max-right (max inputs (expr_reach condition beyond)) (subs_reach subs beyond) n w) same h.subs;
         condition = expr-alike beyond n (kinds ∷ outer) (kinds ∷ others) (one_further level n kinds outer others same) condition _ Boolean
-            (right inputs (expr_reach condition beyond) n own) h.condition;
+            (max-right inputs (expr_reach condition beyond) n own) h.condition;
       }
   formed-alike (ApplyOf kind first second) level n outer others w same h =
       let here = query_reach first (suc level) in
       let inside = query_reach second (suc (suc level)) in
       record {
-        left = formed-alike first level n outer others (left here inside n w) same h.left;
-        right = formed-alike second (suc level) n (kinds_of first ∷ outer) (kinds_of first ∷ others) (right here inside n w)
+        left = formed-alike first level n outer others (max-left here inside n w) same h.left;
+        right = formed-alike second (suc level) n (kinds_of first ∷ outer) (kinds_of first ∷ others) (max-right here inside n w)
             (one_further level n (kinds_of first) outer others same) h.right;
         dependent = h.dependent;
       }
   formed-alike (UnionOf all first second) level n outer others w same h =
       record {
-        left_side = formed-alike first level n outer others (left (query_reach first (suc level)) (query_reach second (suc level)) n w) same h.left_side;
-        right_side = formed-alike second level n outer others (right (query_reach first (suc level)) (query_reach second (suc level)) n w) same h.right_side;
+        left_side = formed-alike first level n outer others (max-left (query_reach first (suc level)) (query_reach second (suc level)) n w) same h.left_side;
+        right_side = formed-alike second level n outer others (max-right (query_reach first (suc level)) (query_reach second (suc level)) n w) same h.right_side;
         same_kinds = h.same_kinds;
       }
   formed-alike (IntersectOf all first second) level n outer others w same h =
       record {
-        left_side = formed-alike first level n outer others (left (query_reach first (suc level)) (query_reach second (suc level)) n w) same h.left_side;
-        right_side = formed-alike second level n outer others (right (query_reach first (suc level)) (query_reach second (suc level)) n w) same h.right_side;
+        left_side = formed-alike first level n outer others (max-left (query_reach first (suc level)) (query_reach second (suc level)) n w) same h.left_side;
+        right_side = formed-alike second level n outer others (max-right (query_reach first (suc level)) (query_reach second (suc level)) n w) same h.right_side;
         same_kinds = h.same_kinds;
       }
   formed-alike (ExceptOf all first second) level n outer others w same h =
       record {
-        left_side = formed-alike first level n outer others (left (query_reach first (suc level)) (query_reach second (suc level)) n w) same h.left_side;
-        right_side = formed-alike second level n outer others (right (query_reach first (suc level)) (query_reach second (suc level)) n w) same h.right_side;
+        left_side = formed-alike first level n outer others (max-left (query_reach first (suc level)) (query_reach second (suc level)) n w) same h.left_side;
+        right_side = formed-alike second level n outer others (max-right (query_reach first (suc level)) (query_reach second (suc level)) n w) same h.right_side;
         same_kinds = h.same_kinds;
       }
   formed-alike (DistinctOf input) level n outer others w same h = formed-alike input level n outer others w same h
   formed-alike (AggregateOf input groups aggregates) level n outer others w same h =
       record {
-        input = formed-alike input level n outer others (left (query_reach input (suc level)) (aggregates_reach aggregates (suc level)) n w) same h.input;
+        input = formed-alike input level n outer others (max-left (query_reach input (suc level)) (aggregates_reach aggregates (suc level)) n w) same h.input;
         groups = h.groups;
         aggregates = aggregates-alike (suc level) n (kinds_of input ∷ outer) (kinds_of input ∷ others) (one_further level n (kinds_of input) outer others same) aggregates
-            (right (query_reach input (suc level)) (aggregates_reach aggregates (suc level)) n w) h.aggregates;
+            (max-right (query_reach input (suc level)) (aggregates_reach aggregates (suc level)) n w) h.aggregates;
       }
   formed-alike (LimitOf input keys count) level n outer others w same h =
       record { input = formed-alike input level n outer others w same h.input; keys = h.keys; bound = h.bound }
@@ -238,10 +227,10 @@ mutual
   subs-alike (more_of-Sublink kind tested query subs) level n kinds outer others w same h =
       let here = option_reach tested (suc level) in
       let inside = query_reach query (suc (suc level)) in
-      let own = left (max here inside) (subs_reach subs (suc level)) n w in
+      let own = max-left (max here inside) (subs_reach subs (suc level)) n w in
       let further = one_further level n kinds outer others same in
       record {
-        query = formed-alike query (suc level) n (kinds ∷ outer) (kinds ∷ others) (right here inside n own) further h.query;
-        fitting = tested-alike (suc level) n (kinds ∷ outer) (kinds ∷ others) further kind tested (kinds_of query) (left here inside n own) h.fitting;
-        others = subs-alike subs level n kinds outer others (right (max here inside) (subs_reach subs (suc level)) n w) same h.others;
+        query = formed-alike query (suc level) n (kinds ∷ outer) (kinds ∷ others) (max-right here inside n own) further h.query;
+        fitting = tested-alike (suc level) n (kinds ∷ outer) (kinds ∷ others) further kind tested (kinds_of query) (max-left here inside n own) h.fitting;
+        others = subs-alike subs level n kinds outer others (max-right (max here inside) (subs_reach subs (suc level)) n w) same h.others;
       }

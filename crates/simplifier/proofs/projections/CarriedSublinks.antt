@@ -3,10 +3,11 @@ use Rattle.std.proofs.Common.{◌≡◌, ℕ, zero, suc, ◌≤◌, ◌<◌, tru
 use Rattle.std.specs.Prelude.{slice_get, option_map}
 use Rattle.std.proofs.lemmas.Bool.{leb-true}
 use Rattle.std.proofs.lemmas.Option.{get_or_from_slice_get, slice_get-get_or, slice_get-map, slice_get_within}
-use Rattle.perm_values.specs.Rows.{picked, value_at}
+use Rattle.perm_values.specs.Rows.{picked, value_at, PlacesWithin}
 use Rattle.perm_values.specs.declared.kind.Kind.{Kind}
 use Rattle.perm_values.specs.declared.kind.Kind.TheVariants.{Text}
 use Rattle.perm_values.specs.declared.value.Value.TheVariants.{Null}
+use Rattle.perm_values.proofs.Steps.{by}
 use Rattle.bag_algebra.proofs.Truths.{left-true, right-true}
 use Rattle.bag_algebra.specs.Bags.{Row}
 use Rattle.bag_algebra.specs.Children.{sublink_value, subs_denote}
@@ -16,7 +17,7 @@ use Rattle.bag_algebra.specs.Means.{sub_value}
 use Rattle.bag_algebra.specs.Outcome.{both, both_then}
 use Rattle.bag_algebra.specs.Rewriting.{is_plain}
 use Rattle.bag_algebra.specs.TablesRead.{EachTable}
-use Rattle.bag_algebra.specs.WellFormed.{PlacesIn, WellFormed, sub_form, sub_kind}
+use Rattle.bag_algebra.specs.WellFormed.{WellFormed, sub_form, sub_kind}
 use Rattle.bag_algebra.specs.built.Forms.{AllSubsForm, EachTableOfSubs, subs_kinds}
 use Rattle.bag_algebra.specs.built.Scopes.{all_plain}
 use Rattle.bag_algebra.specs.declared.expr.Expr.{Expr}
@@ -26,7 +27,6 @@ use Rattle.bag_algebra.specs.declared.query.SubKind.TheVariants as sub
 use Rattle.bag_algebra.specs.declared.query.Sublink.{Sublink}
 use Rattle.query_facts.proofs.Alike.{Alike, denote-alike}
 use Rattle.query_facts.specs.reached.Reach.{reach_of}
-use Rattle.simpler_laws.proofs.TestedQueries.{by}
 use Rattle.simplifier.proofs.projections.AlikeForms.{AlikeKinds, formed-alike}
 use Rattle.simplifier.specs.projections.Carried.{AllCarried, IsCarried, Leads, TestedMoved, all_reach}
 
@@ -63,7 +63,7 @@ module _ (order : List ℕ) where
     rows-alike u env zero place h = same_value u place (omega (arith, h))
     rows-alike u env (suc own) place h = refl
 
-    module _ (kinds : List Kind) (within : PlacesIn (length kinds) order) (outer : List (List Kind)) where
+    module _ (kinds : List Kind) (within : PlacesWithin (length kinds) order) (outer : List (List Kind)) where
       inside : (k : ℕ) → k < first → k < length kinds
       inside k low =
           let there = leads k low in

@@ -7,9 +7,7 @@ use Rattle.bag_algebra.specs.declared.query.JoinKind.{JoinKind}
 use Rattle.bag_algebra.specs.declared.query.Query.{Query}
 use Rattle.bag_algebra.specs.declared.query.Query.TheVariants.{Filter, Join}
 use Rattle.bag_algebra.specs.declared.query.Sublink.{Sublink}
-
-one_same : (a b : Query) → a ∷ [] ≡ b ∷ [] → a ≡ b
-one_same a b e = cc
+use Rattle.simpler_laws.proofs.MergedProjects.{one_same}
 
 first_same : (a b c d : Query) → a ∷ c ∷ [] ≡ b ∷ d ∷ [] → a ≡ b
 first_same a b c d e = cc

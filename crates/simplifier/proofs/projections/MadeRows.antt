@@ -7,7 +7,7 @@ use Rattle.bag_algebra.specs.Bags.{Row, Bag, nulls}
 use Rattle.bag_algebra.specs.Means.{holds_of, is_met, kept, keeps_left, keeps_right, met_pairs, joined_rows, unmatched_left, unmatched_right}
 use Rattle.bag_algebra.specs.Outcome.{Outcome, Good, Bad, and_then, mapped, both, both_then, gather}
 use Rattle.bag_algebra.specs.declared.query.JoinKind.{JoinKind}
-use Rattle.contribution.proofs.WhereGood.{Each, WhereGood}
+use Rattle.contribution.proofs.WhereGood.{Every, WhereGood}
 
 -- ---- filters
 
@@ -46,14 +46,14 @@ module _ (P R : Row → Type 0) (f g make : Row → Row) (condition lower : Row 
   pair-kept : (u v : Row) → P u → R v → kept condition (f u ++ g v) ≡ mapped (map make) (kept lower (u ++ v))
   pair-kept u v h k = ap (kept condition) (sym (pair u v h k)) ∙ kept-made make condition lower same (u ++ v)
 
-  row-pairs : (u : Row) (vs : Bag) → P u → Each R vs →
+  row-pairs : (u : Row) (vs : Bag) → P u → Every R vs →
       gather (λ v. kept condition (f u ++ v)) (map g vs) ≡ mapped (map make) (gather (λ v. kept lower (u ++ v)) vs)
   row-pairs u [] h k = refl
   row-pairs u (v ∷ vs) h k =
       (λ i. both (λ y ys. y ++ ys) (pair-kept u v h k.0 i) (row-pairs u vs h k.1 i))
       ∙ appended-made make (kept lower (u ++ v)) (gather (λ w. kept lower (u ++ w)) vs)
 
-  all-pairs : (us vs : Bag) → Each P us → Each R vs → met_pairs condition (map f us) (map g vs) ≡ mapped (map make) (met_pairs lower us vs)
+  all-pairs : (us vs : Bag) → Every P us → Every R vs → met_pairs condition (map f us) (map g vs) ≡ mapped (map make) (met_pairs lower us vs)
   all-pairs [] vs h k = refl
   all-pairs (u ∷ us) vs h k =
       (λ i. both (λ y ys. y ++ ys) (row-pairs u vs h.0 k i) (all-pairs us vs h.1 k i))
@@ -62,12 +62,12 @@ module _ (P R : Row → Type 0) (f g make : Row → Row) (condition lower : Row 
   pair-met : (u v : Row) → P u → R v → is_met (condition (f u ++ g v)) ≡ is_met (lower (u ++ v))
   pair-met u v h k = ap is_met (ap condition (sym (pair u v h k)) ∙ sym (same (u ++ v)))
 
-  any-right : (u : Row) (vs : Bag) → P u → Each R vs →
+  any-right : (u : Row) (vs : Bag) → P u → Every R vs →
       list_any (λ v. is_met (condition (f u ++ v))) (map g vs) ≡ list_any (λ v. is_met (lower (u ++ v))) vs
   any-right u [] h k = refl
   any-right u (v ∷ vs) h k = λ i. pair-met u v h k.0 i || any-right u vs h k.1 i
 
-  any-left : (us : Bag) (v : Row) → Each P us → R v →
+  any-left : (us : Bag) (v : Row) → Every P us → R v →
       list_any (λ u. is_met (condition (u ++ g v))) (map f us) ≡ list_any (λ u. is_met (lower (u ++ v))) us
   any-left [] v h k = refl
   any-left (u ∷ us) v h k = λ i. pair-met u v h.0 k i || any-left us v h.1 k i
@@ -84,7 +84,7 @@ module _ (P R : Row → Type 0) (f g make : Row → Row) (condition lower : Row 
     one-right true v us vs h e = λ i. sym (left_empty v h) i ∷ e i
     one-right false v us vs h e = e
 
-    left-alone : (us vs : Bag) → Each P us → Each R vs →
+    left-alone : (us vs : Bag) → Every P us → Every R vs →
         map (λ t. t ++ nulls right_width) (unmatched_left condition (map f us) (map g vs)) ≡ map make (map (λ t. t ++ nulls lower_right) (unmatched_left lower us vs))
     left-alone [] vs h k = refl
     left-alone (u ∷ us) vs h k =
@@ -93,7 +93,7 @@ module _ (P R : Row → Type 0) (f g make : Row → Row) (condition lower : Row 
         ∙ one-left (not (list_any (λ v. is_met (lower (u ++ v))) vs)) u (unmatched_left condition (map f us) (map g vs)) (unmatched_left lower us vs) h.0
         (left-alone us vs h.1 k)
 
-    right-alone : (us vs : Bag) → Each P us → Each R vs →
+    right-alone : (us vs : Bag) → Every P us → Every R vs →
         map (λ t. nulls left_width ++ t) (unmatched_right condition (map f us) (map g vs)) ≡ map make (map (λ t. nulls lower_left ++ t) (unmatched_right lower us vs))
     right-alone us [] h k = refl
     right-alone us (v ∷ vs) h k =
@@ -113,7 +113,7 @@ module _ (P R : Row → Type 0) (f g make : Row → Row) (condition lower : Row 
     parts-made (Bad faults) left right lefts rights e d = refl
 
     module _ (kind : JoinKind) where
-      joined-made : (us vs : Bag) → Each P us → Each R vs →
+      joined-made : (us vs : Bag) → Every P us → Every R vs →
           joined_rows kind condition left_width right_width (map f us) (map g vs) ≡ mapped (map make) (joined_rows kind lower lower_left lower_right us vs)
       joined-made us vs h k =
           ap (mapped (λ pairs. pairs
@@ -123,7 +123,7 @@ module _ (P R : Row → Type 0) (f g make : Row → Row) (condition lower : Row 
           (if-made (keeps_left kind) _ (map (λ u. u ++ nulls lower_right) (unmatched_left lower us vs)) (left-alone us vs h k))
           (if-made (keeps_right kind) _ (map (λ v. nulls lower_left ++ v) (unmatched_right lower us vs)) (right-alone us vs h k))
 
-      pub join-made : (o p : Outcome Bag) → WhereGood (Each P) o → WhereGood (Each R) p →
+      pub join-made : (o p : Outcome Bag) → WhereGood (Every P) o → WhereGood (Every R) p →
           both_then (mapped (map f) o) (mapped (map g) p) (joined_rows kind condition left_width right_width)
           ≡ mapped (map make) (both_then o p (joined_rows kind lower lower_left lower_right))
       join-made (Good us) (Good vs) h k = joined-made us vs h k

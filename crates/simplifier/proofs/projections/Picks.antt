@@ -1,10 +1,11 @@
 -- A query as columns of another: in what that one's rows, kinds and tables are its own.
 use Rattle.std.proofs.Common.{◌≡◌, ℕ, Bool, true, false, List, [], ◌∷◌, map, length, append-nil, refl, sym, ap, ◌∙◌, subst, arith}
 use Rattle.std.specs.List.{range_with_len}
-use Rattle.perm_values.specs.Rows.{picked}
+use Rattle.perm_values.specs.Rows.{picked, PlacesWithin}
 use Rattle.perm_values.specs.declared.kind.Kind.{Kind}
 use Rattle.perm_values.specs.declared.kind.Kind.TheVariants.{Text}
 use Rattle.perm_values.specs.declared.value.Value.TheVariants.{Null}
+use Rattle.perm_values.proofs.Steps.{by}
 use Rattle.bag_algebra.proofs.Truths.{and_true}
 use Rattle.bag_algebra.specs.Bags.{Row, Bag}
 use Rattle.bag_algebra.specs.Fits.{TablesFit, env_fits}
@@ -13,7 +14,7 @@ use Rattle.bag_algebra.specs.Meaning.{Database, meaning}
 use Rattle.bag_algebra.specs.Outcome.{Outcome, Good, Bad, mapped}
 use Rattle.bag_algebra.specs.Rewriting.{is_plain}
 use Rattle.bag_algebra.specs.TablesRead.{EachTable}
-use Rattle.bag_algebra.specs.WellFormed.{HasKind, PlacesIn, WellFormed}
+use Rattle.bag_algebra.specs.WellFormed.{HasKind, WellFormed}
 use Rattle.bag_algebra.specs.built.Forms.{EachTable-Project, WellFormed-Project}
 use Rattle.bag_algebra.specs.built.Openings.{kinds_of-Project}
 use Rattle.bag_algebra.specs.built.Scopes.{is_plain-Project}
@@ -22,10 +23,9 @@ use Rattle.bag_algebra.specs.declared.query.Query.{Query}
 use Rattle.bag_algebra.specs.declared.query.Query.TheVariants.{Project}
 use Rattle.contribution.proofs.QueryKinds.{denote-fits, each-all}
 use Rattle.contribution.proofs.RowKinds.{RowFits, row_fits-length}
-use Rattle.contribution.proofs.WhereGood.{Each, WhereGood}
+use Rattle.contribution.proofs.WhereGood.{Every, WhereGood}
 use Rattle.rewrite_core.proofs.Places.{at-between, within-range}
 use Rattle.simpler_laws.proofs.ColumnItems.{columns-kinds, columns-within, meaning-columns}
-use Rattle.simpler_laws.proofs.TestedQueries.{by}
 use Rattle.simpler_laws.specs.Lowered.{AreColumns}
 use Rattle.simplifier.specs.projections.Sides.{IsSide, of_input, of_itself}
 use Rattle.simplifier.specs.declared.projections.sides.Side.{Side}
@@ -36,7 +36,7 @@ pub record Picks (query under : Query) (places : List ℕ) : Type 1 where
   pub tables : (P : ℕ → List Kind → Type 0) → EachTable P query → EachTable P under
   pub formed : (outer : List (List Kind)) → WellFormed outer query → WellFormed outer under
   pub kinds : (outer : List (List Kind)) → WellFormed outer query → kinds_of query ≡ kinds_in (kinds_of under) places
-  pub within : (outer : List (List Kind)) → WellFormed outer query → PlacesIn (width_of under) places
+  pub within : (outer : List (List Kind)) → WellFormed outer query → PlacesWithin (width_of under) places
   pub rows : (outer : List (List Kind)) (db : Database) (env : List Row) → WellFormed outer query → TablesFit db query → env_fits env outer ≡ true →
       meaning query db env ≡ mapped (map (picked places)) (meaning under db env)
 
@@ -45,7 +45,7 @@ pub record Picks (query under : Query) (places : List ℕ) : Type 1 where
 pub picks-columns : (under : Query) (items : List Item) (places : List ℕ) → AreColumns items places → Picks (Project under items []) under places
 picks-columns under items places are =
     let inside : (outer : List (List Kind)) → WellFormed outer (Project under items []) →
-    Each (λ (item : Item). HasKind (kinds_of under ∷ outer) [] item.expr item.kind) items =
+    Every (λ (item : Item). HasKind (kinds_of under ∷ outer) [] item.expr item.kind) items =
     λ outer f. each-all (λ (item : Item). HasKind (kinds_of under ∷ outer) [] item.expr item.kind) items (by (WellFormed-Project outer under items []) f).items in
     record {
       plain = λ h. sym (and_true (is_plain under)) ∙ sym (is_plain-Project under items []) ∙ h;
@@ -65,11 +65,11 @@ all-values : (u : Row) (width : ℕ) → length u ≡ width → picked (range_wi
 all-values u width long = ap (picked (range_with_len 0 width)) (sym (append-nil u)) ∙ at-between Null [] u [] 0 width refl long
 
 module _ (kinds : List Kind) where
-  each-itself : (us : Bag) → Each (RowFits kinds) us → map (picked (range_with_len 0 (length kinds))) us ≡ us
+  each-itself : (us : Bag) → Every (RowFits kinds) us → map (picked (range_with_len 0 (length kinds))) us ≡ us
   each-itself [] h = refl
   each-itself (u ∷ us) h = λ i. all-values u (length kinds) (row_fits-length u kinds h.0.fit) i ∷ each-itself us h.1 i
 
-  rows-itself : (o : Outcome Bag) → WhereGood (Each (RowFits kinds)) o → o ≡ mapped (map (picked (range_with_len 0 (length kinds)))) o
+  rows-itself : (o : Outcome Bag) → WhereGood (Every (RowFits kinds)) o → o ≡ mapped (map (picked (range_with_len 0 (length kinds)))) o
   rows-itself (Good us) h = ap Good (sym (each-itself us h))
   rows-itself (Bad faults) h = refl
 

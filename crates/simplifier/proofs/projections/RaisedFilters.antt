@@ -1,9 +1,10 @@
 -- A filter over a projection to columns is that projection over the filter.
 use Rattle.std.proofs.Common.{◌≡◌, ℕ, true, List, [], ◌∷◌, length, map, sym, ap, ◌∙◌, subst}
 use Rattle.std.proofs.lemmas.Bool.{and_from}
-use Rattle.perm_values.specs.Rows.{picked}
+use Rattle.perm_values.specs.Rows.{picked, PlacesWithin}
 use Rattle.perm_values.specs.declared.kind.Kind.{Kind}
 use Rattle.perm_values.specs.declared.kind.Kind.TheVariants as kind
+use Rattle.perm_values.proofs.Steps.{by}
 use Rattle.bag_algebra.proofs.Truths.{and_true, left-true, right-true}
 use Rattle.bag_algebra.specs.Bags.{Row}
 use Rattle.bag_algebra.specs.Children.{subs_denote}
@@ -13,7 +14,7 @@ use Rattle.bag_algebra.specs.Meaning.{Database, meaning, condition_on}
 use Rattle.bag_algebra.specs.Means.{kept}
 use Rattle.bag_algebra.specs.Outcome.{and_then, mapped, gather}
 use Rattle.bag_algebra.specs.Rewriting.{is_plain, Stands}
-use Rattle.bag_algebra.specs.WellFormed.{HasKind, PlacesIn, WellFormed}
+use Rattle.bag_algebra.specs.WellFormed.{HasKind, WellFormed}
 use Rattle.bag_algebra.specs.built.Forms.{AllSubsForm, EachTable-Filter, WellFormed-Filter, subs_kinds}
 use Rattle.bag_algebra.specs.built.Openings.{kinds_of-Filter, meaning-Filter}
 use Rattle.bag_algebra.specs.built.Patterns.{ProjectOf}
@@ -25,7 +26,7 @@ use Rattle.bag_algebra.specs.declared.query.Sublink.{Sublink}
 use Rattle.contribution.proofs.ColumnQueries.{formed-columns, kinds_of-columns, meaning-columns}
 use Rattle.contribution.specs.MovedColumns.{IsMoved}
 use Rattle.rewrite_core.proofs.Itself.{stands-onward}
-use Rattle.simpler_laws.proofs.TestedQueries.{by, stands-equal}
+use Rattle.simpler_laws.proofs.TestedQueries.{stands-equal}
 use Rattle.simplifier.proofs.projections.CarriedSublinks.{carried-answers, carried-form, carried-kinds, carried-plain, carried-tables}
 use Rattle.simplifier.proofs.projections.MadeRows.{filter-made}
 use Rattle.simplifier.proofs.projections.Picks.{Picks}
@@ -48,8 +49,8 @@ module _ (input under : Query) (places : List ℕ) (picks : Picks input under pl
   filtered-kinds : kinds_of filtered ≡ kinds_of under
   filtered-kinds = kinds_of-Filter under lower others
 
-  filtered-within : (outer : List (List Kind)) → WellFormed outer whole → PlacesIn (length (kinds_of filtered)) places
-  filtered-within outer f = subst (λ kinds. PlacesIn (length kinds) places) (sym filtered-kinds) (picks.within outer (input-formed outer f))
+  filtered-within : (outer : List (List Kind)) → WellFormed outer whole → PlacesWithin (length (kinds_of filtered)) places
+  filtered-within outer f = subst (λ kinds. PlacesWithin (length kinds) places) (sym filtered-kinds) (picks.within outer (input-formed outer f))
 
   filtered-formed : (outer : List (List Kind)) → WellFormed outer whole → WellFormed outer filtered
   filtered-formed outer f =

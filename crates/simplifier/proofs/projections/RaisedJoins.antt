@@ -1,11 +1,12 @@
 -- A join of projections to columns is a projection to columns over the join, of whatever kind it is.
-use Rattle.std.proofs.Common.{◌≡◌, ℕ, suc, zero, ◌+◌, ◌<◌, ◌≤◌, true, ◌&&◌, List, [], ◌∷◌, ◌++◌, map, length, refl, sym, ap, ◌∙◌, subst, arith, length-append}
+use Rattle.std.proofs.Common.{◌≡◌, ℕ, zero, ◌+◌, ◌<◌, ◌≤◌, true, ◌&&◌, List, [], ◌∷◌, ◌++◌, map, length, refl, sym, ap, ◌∙◌, subst, arith, length-append}
 use Rattle.std.proofs.lemmas.List.{length-map, map-append}
 use Rattle.std.proofs.lemmas.List.Elements.{All-append}
-use Rattle.perm_values.specs.Rows.{picked, value_at}
+use Rattle.perm_values.specs.Rows.{picked, value_at, PlacesWithin}
 use Rattle.perm_values.specs.declared.kind.Kind.{Kind}
 use Rattle.perm_values.specs.declared.kind.Kind.TheVariants.{Boolean, Text}
 use Rattle.perm_values.specs.declared.value.Value.TheVariants.{Null}
+use Rattle.perm_values.proofs.Steps.{by}
 use Rattle.bag_algebra.proofs.Truths.{and_true, both-true, left-true, right-true}
 use Rattle.bag_algebra.specs.Bags.{Row, nulls}
 use Rattle.bag_algebra.specs.ColumnItems.{column_items}
@@ -15,7 +16,7 @@ use Rattle.bag_algebra.specs.Meaning.{Database, meaning, condition_on}
 use Rattle.bag_algebra.specs.Means.{joined_rows, no_subs}
 use Rattle.bag_algebra.specs.Outcome.{both_then, mapped}
 use Rattle.bag_algebra.specs.Rewriting.{is_plain, Stands}
-use Rattle.bag_algebra.specs.WellFormed.{HasKind, PlacesIn, WellFormed}
+use Rattle.bag_algebra.specs.WellFormed.{HasKind, WellFormed}
 use Rattle.bag_algebra.specs.built.Forms.{EachTable-Join, WellFormed-Join}
 use Rattle.bag_algebra.specs.built.Openings.{kinds_of-Join, meaning-Join, rows-with_lists}
 use Rattle.bag_algebra.specs.built.Patterns.{JoinOf, ProjectOf}
@@ -28,50 +29,46 @@ use Rattle.contribution.proofs.ColumnQueries.{all-first, all-nothing, all-rest, 
 use Rattle.contribution.proofs.QueryKinds.{denote-fits}
 use Rattle.contribution.proofs.RowKinds.{RowFits, nulls-fit, row_fits-length}
 use Rattle.contribution.specs.MovedColumns.{IsMoved}
+use Rattle.query_laws.proofs.SpineItems.{nulls-null}
 use Rattle.rewrite_core.proofs.Itself.{stands-onward}
 use Rattle.rewrite_core.proofs.Places.{at-moved, at-within}
-use Rattle.simpler_laws.proofs.TestedQueries.{by, stands-equal}
+use Rattle.simpler_laws.proofs.TestedQueries.{stands-equal}
 use Rattle.simplifier.proofs.projections.MadeRows.{join-made}
 use Rattle.simplifier.proofs.projections.Picks.{Picks}
 use Rattle.simplifier.specs.projections.Plans.{pair_places}
 
 -- ---- places
 
-wider : (n m : ℕ) → n ≤ m → (places : List ℕ) → PlacesIn n places → PlacesIn m places
+wider : (n m : ℕ) → n ≤ m → (places : List ℕ) → PlacesWithin n places → PlacesWithin m places
 wider n m low [] within = all-nothing (λ place. place < m)
 wider n m low (place ∷ places) within =
     let first : place < n = within zero 0 (omega arith) in
     all-first (λ place. place < m) place places (omega (arith, first, low)) (wider n m low places (all-rest (λ place. place < n) place places within))
 
-behind : (n m : ℕ) (places : List ℕ) → PlacesIn m places → PlacesIn (n + m) (map (λ place. n + place) places)
+behind : (n m : ℕ) (places : List ℕ) → PlacesWithin m places → PlacesWithin (n + m) (map (λ place. n + place) places)
 behind n m [] within = all-nothing (λ place. place < (n + m))
 behind n m (place ∷ places) within =
     let first : place < m = within zero 0 (omega arith) in
     all-first (λ place. place < (n + m)) (n + place) (map (λ place. n + place) places) (omega (arith, first))
     (behind n m places (all-rest (λ place. place < m) place places within))
 
-pairs-within : (n m : ℕ) (lefts rights : List ℕ) → PlacesIn n lefts → PlacesIn m rights → PlacesIn (n + m) (pair_places lefts n rights)
+pairs-within : (n m : ℕ) (lefts rights : List ℕ) → PlacesWithin n lefts → PlacesWithin m rights → PlacesWithin (n + m) (pair_places lefts n rights)
 pairs-within n m lefts rights h k =
     All-append (λ place. place < (n + m)) lefts (map (λ place. n + place) rights) (wider n (n + m) (omega arith) lefts h) (behind n m rights k)
 
 -- ---- rows
 
-nulls-at : (n place : ℕ) → value_at (nulls n) place ≡ Null
-nulls-at zero place = refl
-nulls-at (suc n) zero = refl
-nulls-at (suc n) (suc place) = nulls-at n place
-
 nulls-picked : (n : ℕ) (places : List ℕ) → picked places (nulls n) ≡ nulls (length places)
 nulls-picked n [] = refl
-nulls-picked n (place ∷ places) = λ i. nulls-at n place i ∷ nulls-picked n places i
+nulls-picked n (place ∷ places) = λ i. nulls-null n place i ∷ nulls-picked n places i
 
-pair-picked : (n : ℕ) (lefts rights : List ℕ) (u v : Row) → length u ≡ n → PlacesIn n lefts →
+pair-picked : (n : ℕ) (lefts rights : List ℕ) (u v : Row) → length u ≡ n → PlacesWithin n lefts →
     picked (pair_places lefts n rights) (u ++ v) ≡ picked lefts u ++ picked rights v
 pair-picked n lefts rights u v long within =
     map-append (value_at (u ++ v)) lefts (map (λ place. n + place) rights)
-    ∙ (λ i. at-within Null u v lefts (subst (λ w. PlacesIn w lefts) (sym long) within) i ++ at-moved Null u v rights n long i)
+    ∙ (λ i. at-within Null u v lefts (subst (λ w. PlacesWithin w lefts) (sym long) within) i ++ at-moved Null u v rights n long i)
 
-pair-kinds : (ks ls : List Kind) (lefts rights : List ℕ) → PlacesIn (length ks) lefts →
+pair-kinds : (ks ls : List Kind) (lefts rights : List ℕ) → PlacesWithin (length ks) lefts →
     kinds_in (ks ++ ls) (pair_places lefts (length ks) rights) ≡ kinds_in ks lefts ++ kinds_in ls rights
 pair-kinds ks ls lefts rights within =
     map-append (kind_in (ks ++ ls)) lefts (map (λ place. length ks + place) rights)
@@ -106,15 +103,15 @@ module _ (left right lower_left lower_right : Query) (lefts rights : List ℕ) (
     right-formed : WellFormed outer right
     right-formed = (by (WellFormed-Join outer kind left right condition []) f).right
 
-    left-within : PlacesIn (width_of lower_left) lefts
+    left-within : PlacesWithin (width_of lower_left) lefts
     left-within = of_left.within outer left-formed
 
-    right-within : PlacesIn (width_of lower_right) rights
+    right-within : PlacesWithin (width_of lower_right) rights
     right-within = of_right.within outer right-formed
 
-    within-order : PlacesIn (width_of pairs) order
+    within-order : PlacesWithin (width_of pairs) order
     within-order =
-        subst (λ n. PlacesIn n order) (sym (length-append (kinds_of lower_left) (kinds_of lower_right)))
+        subst (λ n. PlacesWithin n order) (sym (length-append (kinds_of lower_left) (kinds_of lower_right)))
         (pairs-within (width_of lower_left) (width_of lower_right) lefts rights left-within right-within)
 
     kinds-pairs : kinds_of left ++ kinds_of right ≡ kinds_in (kinds_of lower_left ++ kinds_of lower_right) order

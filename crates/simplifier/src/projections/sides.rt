@@ -5,9 +5,8 @@ ghost use Rattle.bag_algebra.specs.declared.query.Query.TheVariants.{Project};
 ghost use Rattle.bag_algebra.specs.declared.query.Query.{Query};
 ghost use Rattle.simplifier.specs.projections.Sides.{IsBelow, IsSide};
 
-use bag_algebra::{Item, Query};
+use bag_algebra::{Item, Query, exact_width};
 use perm_values::{List, NoMemory};
-use rewrite_core::exact_width;
 use simpler_laws::{input_of, own_places};
 use std::alloc::Global;
 

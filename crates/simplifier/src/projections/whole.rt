@@ -7,9 +7,8 @@ ghost use Rattle.bag_algebra.specs.declared.query.Query.{Query};
 ghost use Rattle.simpler_laws.specs.Lowered.{AreColumns};
 ghost use Rattle.simplifier.specs.projections.Sides.{IsWhole};
 
-use bag_algebra::{Item, Query};
+use bag_algebra::{Item, Query, exact_width};
 use perm_values::NoMemory;
-use rewrite_core::exact_width;
 use simpler_laws::{input_of, own_place};
 
 /// What stands for whatever the query stands for. A projection without sublinks to all columns of its input, in their order,

@@ -7,14 +7,14 @@ use Rattle.perm_values.specs.declared.key.Key.{Key}
 use Rattle.perm_values.specs.declared.kind.Kind.{Kind}
 use Rattle.bag_algebra.specs.Kinds.{kinds_of}
 use Rattle.bag_algebra.specs.TablesRead.{EachTable}
-use Rattle.bag_algebra.specs.WellFormed.{KeysIn, WellFormed}
+use Rattle.bag_algebra.specs.WellFormed.{WellFormed}
 use Rattle.bag_algebra.specs.declared.expr.Expr.TheVariants.{Col}
 use Rattle.bag_algebra.specs.declared.query.Query.{Query}
 use Rattle.perm_catalog.specs.Contents.{Contents}
 use Rattle.sql_tree.specs.declared.query.Core.{Core}
 use Rattle.sql_tree.specs.declared.query.QueryTree.{QueryTree}
 use Rattle.sql_tree.specs.declared.query.SelectItem.{SelectItem}
-use Rattle.name_meaning.specs.Froms.{in_clause, names_of, settled_columns}
+use Rattle.name_meaning.specs.Froms.{in_clause, names_of, settled_columns, named_columns}
 use Rattle.name_meaning.specs.Meanings.{Surroundings, query_means_at}
 use Rattle.name_meaning.specs.Scopes.{scope_of}
 use Rattle.name_meaning.specs.Statements.{alone, columns_of, query_meant}
@@ -24,6 +24,7 @@ use Rattle.tree_texts.specs.Trees.{AreItems, IsCore, IsQuery, an_item_tree, no_i
 use Rattle.query_texts.specs.clauses.Names.{outermost}
 use Rattle.query_texts.specs.declared.clauses.tables.TableNames.{TableNames}
 use Rattle.query_texts.specs.forms.ShownQueries.{Framed, called, called_from, framed, selected, shown_answer, sources}
+use Rattle.name_meaning.proofs.Settled.{named-names}
 use Rattle.sql_printer.specs.rows.Printed.{Readings, columns_from, or_unread, printed_answer, readings, unread_item}
 use Rattle.sql_printer.specs.rows.PrintedExpressions.{before}
 use Rattle.sql_printer.specs.rows.Writable.{WritableQuery}
@@ -32,7 +33,7 @@ use Rattle.sql_printer.specs.answers.ReadAs.{IsNamed, IsReadAs, Narrow, source_i
 use Rattle.sql_printer.proofs.expressions.PlainTrees.{plain-tree}
 use Rattle.sql_printer.specs.expressions.Reading.{Finds}
 use Rattle.sql_printer.proofs.cores.ReadBlocks.{select-read}
-use Rattle.sql_printer.proofs.cores.ReadFroms.{columns-settled, known_columns}
+use Rattle.sql_printer.proofs.cores.ReadFroms.{columns-settled}
 use Rattle.sql_printer.proofs.expressions.ReadLeaves.{column-read}
 use Rattle.sql_printer.proofs.cores.ReadLists.{ListRead, item-read, no_items-read}
 use Rattle.sql_printer.specs.cores.Queries.{out_columns}
@@ -62,11 +63,6 @@ module _ (c : Contents) (has_from : Bool) (scope : Scope) (here : Surroundings) 
       item-read c has_from scope here items names kind all (λ n. Col 0 (before (front ∷ []) 0 + place))
       (λ n. columns_from (suc (before (front ∷ []) 0 + place)) all) [] [] 0 d (λ tree e. plain-tree c tt e)
       (λ tree e. column-read c here (marks 1) (own ∷ []) (front ∷ []) finds outside 0 place kind (sym (ap (slice_get own) at_place) ∙ kinds_are 0 kind refl) e) others refl
-
-names-known : (names : List (List ℕ)) (all : List Kind) → length names ≡ length all → names_of (known_columns names all) ≡ names
-names-known [] all same = refl
-names-known (name ∷ names) [] same = absurd (omega (arith, same))
-names-known (name ∷ names) (kind ∷ all) same = ap (λ more. name ∷ more) (names-known names all (omega (arith, same)))
 
 wide : (names : List (List ℕ)) (all : List Kind) → length names ≡ length all → length (out_columns names all) ≡ length names
 wide [] all same = refl
@@ -106,7 +102,7 @@ module _ (c : Contents) (tables : List TableNames) (q : Query) (kind : Kind) (mo
         whole = shown_list;
       }) tree d
 
-  pub answer-read : (names : List (List ℕ)) (keys : List Key) → length names ≡ length own → KeysIn (length names) keys → (tree : QueryTree)
+  pub answer-read : (names : List (List ℕ)) (keys : List Key) → length names ≡ length own → KeysWithin (length names) keys → (tree : QueryTree)
       → IsQuery (shown_answer tables q names keys) tree
       → IsReadAs c tree (record { query = printed_answer (source_in c tables) q; names = names; keys = keys })
   unfolding query_means_at
@@ -115,8 +111,8 @@ module _ (c : Contents) (tables : List TableNames) (q : Query) (kind : Kind) (mo
       let all = name ∷ names in
       let r = one-read c keys None alone all own (printed_answer (source_in c tables) q) (subst (λ n. KeysWithin n keys) (sym (wide all own same)) within) d
       (λ core e. core-called name names same core e) in
-      let known : columns_of (query_meant c tree) ≡ known_columns all own = ap (λ columns. option_map_or settled_columns columns []) r.0.columns ∙ columns-settled all own in
+      let known : columns_of (query_meant c tree) ≡ named_columns all own = ap (λ columns. option_map_or settled_columns columns []) r.0.columns ∙ columns-settled all own in
       record {
         whole = r.0.breaks;
-        same = λ i. record { query = r.0.make [] i; names = (ap names_of known ∙ names-known all own same) i; keys = r.1 i };
+        same = λ i. record { query = r.0.make [] i; names = (ap names_of known ∙ named-names all own same) i; keys = r.1 i };
       }

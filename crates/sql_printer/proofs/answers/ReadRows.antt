@@ -1,18 +1,18 @@
 -- What the tree of an answer's form is read as has the rows of the answer.
-use Rattle.std.proofs.Common.{◌≡◌, ℕ, zero, suc, true, All, List, [], ◌∷◌, length, Option, Some, None, refl, sym, ap, subst, ◌∙◌, arith}
+use Rattle.std.proofs.Common.{◌≡◌, ℕ, zero, suc, true, All, List, [], ◌∷◌, length, Option, Some, None, sym, ap, subst, ◌∙◌, arith}
 use Rattle.std.proofs.lemmas.Bool.{and_parts}
 use Rattle.std.specs.List.{list_all}
 use Rattle.std.specs.Option.{option_map_or}
 use Rattle.perm_values.specs.Rows.{row_fits}
 use Rattle.perm_values.specs.declared.key.Key.{Key}
 use Rattle.perm_values.specs.declared.kind.Kind.{Kind}
-use Rattle.bag_algebra.proofs.BagLaws.{same_bag-refl}
+use Rattle.bag_algebra.proofs.Outcomes.{same_rows-itself}
 use Rattle.bag_algebra.proofs.TablesRead.{each_table-both}
-use Rattle.bag_algebra.specs.Bags.{Bag, Row}
+use Rattle.bag_algebra.specs.Bags.{Row}
 use Rattle.bag_algebra.specs.Fits.{bag_fits}
 use Rattle.bag_algebra.specs.Kinds.{kinds_of}
 use Rattle.bag_algebra.specs.Meaning.{Database, meaning}
-use Rattle.bag_algebra.specs.Outcome.{Outcome, Good, Bad}
+use Rattle.bag_algebra.specs.Outcome.{Good}
 use Rattle.bag_algebra.specs.Rewriting.{SameRows}
 use Rattle.bag_algebra.specs.TablesRead.{EachTable}
 use Rattle.bag_algebra.specs.WellFormed.{WellFormed}
@@ -68,10 +68,6 @@ module _ (c : Contents) (tables : List TableNames) (db : Database) (given : Give
   pub tables-given : (q : Query) → EachTable (IsNamed c tables) q → EachTable (IsGiven (source_in c tables) db) q
   tables-given q named = each_table-both (IsNamed c tables) (IsNamed c tables) (IsGiven (source_in c tables) db) is-given q named named
 
-same-itself : (o : Outcome Bag) → SameRows o o
-same-itself (Good us) = same_bag-refl us
-same-itself (Bad faults) = refl
-
 pub means-answer : (c : Contents) (tables : List TableNames) (q : Query) (kind : Kind) (more : List Kind) → kinds_of q ≡ kind ∷ more → WellFormed [] q → WritableQuery q
     → EachTable (IsNamed c tables) q → (names : List (List ℕ)) (keys : List Key) (tree : QueryTree)
     → IsReadAs c tree (record { query = printed_answer (source_in c tables) q; names = names; keys = keys })
@@ -82,5 +78,5 @@ means-answer c tables q kind more some form w named names keys tree r = record {
   rows = λ db given.
       subst (λ (a : Answer). SameRows (meaning q db []) (meaning a.query db [])) (sym r.same)
       (subst (SameRows (meaning q db [])) (sym (rows-read (source_in c tables) db q kind more some form w (tables-given c tables db given q named)))
-      (same-itself (meaning q db [])));
+      (same_rows-itself (meaning q db [])));
 }

@@ -5,7 +5,6 @@ use Rattle.perm_values.specs.declared.kind.Kind.{Kind}
 use Rattle.perm_values.specs.declared.kind.Kind.TheVariants as kinds
 use Rattle.bag_algebra.specs.declared.query.Query.TheVariants.{Single}
 use Rattle.perm_catalog.specs.Changes.{table_named, view_named}
-use Rattle.perm_catalog.specs.Columns.{column_kinds}
 use Rattle.perm_catalog.specs.Contents.{Contents}
 use Rattle.perm_catalog.specs.declared.column.Column.{Column}
 use Rattle.perm_catalog.specs.declared.entries.TableEntry.{TableEntry}
@@ -17,13 +16,15 @@ use Rattle.sql_tree.specs.declared.source.FromSource.TheVariants.{Named}
 use Rattle.sql_tree.specs.declared.source.FromTree.{FromTree}
 use Rattle.sql_tree.specs.declared.source.ScopeMark.TheVariants.{Plain}
 use Rattle.name_meaning.proofs.Equations.{fromitem-record, fromsource-named, token}
+use Rattle.name_meaning.proofs.Settled.{table-kinds}
 use Rattle.name_meaning.specs.Cores.{distinct_if, has_some}
-use Rattle.name_meaning.specs.Froms.{FromItemPart, first_item, from_all, in_clause, in_from, item_meant, read_nothing, read_table, read_view, table_columns, table_plain}
+use Rattle.name_meaning.specs.Froms.{FromItemPart, first_item, from_all, in_clause, in_from, item_meant, read_nothing, read_table, read_view, table_columns, table_plain, names_of as names}
 use Rattle.name_meaning.specs.Meanings.{Around, Surroundings}
 use Rattle.name_meaning.specs.Scopes.{KnownColumn, ScopeItem, numbered_columns, scope_of}
 use Rattle.name_meaning.specs.Statements.{repeats}
 use Rattle.name_meaning.specs.Trees.{from_item_of, from_of, item_of, source_of}
 use Rattle.name_meaning.specs.declared.scope.Scope.{Scope}
+use Rattle.name_meaning.specs.laws.Known.{column_kinds_of}
 use Rattle.tree_texts.specs.Forms as f
 use Rattle.tree_texts.specs.Trees.{AreItems, AreSources, IsCore, IsItem, an_item_tree, no_item_trees, no_join_trees, source_trees, table_tree}
 use Rattle.query_texts.specs.clauses.Names.{names_of, naming}
@@ -42,7 +43,7 @@ use Rattle.sql_printer.proofs.expressions.ReadLeaves.{integer-read}
 use Rattle.sql_printer.proofs.cores.ReadLists.{ListRead, item-read, no_items-read}
 use Rattle.sql_printer.proofs.cores.ReadQueries.{CoreRead}
 use Rattle.sql_printer.specs.expressions.Scopes.{marks}
-use Rattle.sql_printer.proofs.answers.ReadTables.{kinds_of_columns, names, table_columns-read}
+use Rattle.sql_printer.proofs.answers.ReadTables.{table_columns-read}
 
 -- ---- FROM over a table
 
@@ -78,8 +79,8 @@ module _ (c : Contents) (has_from : Bool) (columns : List KnownColumn) (name : L
       → IsItem (listed (naming (marks out) first) one (map (λ name. f.column (f.bare name)) (names own))).first
       (listed (naming (marks out) first) one (map (λ name. f.column (f.bare name)) (names own))).name item
       → AreItems (listed (naming (marks out) first) one (map (λ name. f.column (f.bare name)) (names own))).more items
-      → ListRead has_from own_scope here (map (item_of c) (item ∷ items)) (listed_names out first (kinds_of_columns own)) (shown_kinds (kinds_of_columns own))
-      (λ n. or_unread unread_item (columns_from 0 (kinds_of_columns own))) []
+      → ListRead has_from own_scope here (map (item_of c) (item ∷ items)) (listed_names out first (column_kinds_of own)) (shown_kinds (column_kinds_of own))
+      (λ n. or_unread unread_item (columns_from 0 (column_kinds_of own))) []
   table_listed [] is inside outside distinct out first d no_item_trees =
       item-read c has_from own_scope here [] [] kinds.Integer [] (λ n. integer 1) (λ n. []) [] [] 0 d (λ tree e. plain-tree c tt e) (λ tree e. integer-read c here 1 e)
       (no_items-read has_from own_scope here) refl
@@ -91,10 +92,6 @@ names-known : (columns : List Column) → names (table_columns columns) ≡ map 
 names-known [] = refl
 names-known (column ∷ columns) = ap (λ more. column.name ∷ more) (names-known columns)
 
-kinds-known : (columns : List Column) → kinds_of_columns (table_columns columns) ≡ column_kinds columns
-kinds-known [] = refl
-kinds-known (column ∷ columns) = ap (λ more. column.kind ∷ more) (kinds-known columns)
-
 pub table-read : (c : Contents) (tables : List TableNames) (id : ℕ) (own : List Kind) → IsNamed c tables id own → (around : Around) (distinct : Bool) (out first : ℕ) (tree : Core)
     → IsCore (of_table (names_of tables id) distinct (naming (marks out) first)) tree
     → CoreRead c around (listed_names out first own) (shown_kinds own) (distinct_if distinct (given_of own 0 (source_in c tables id own))) tree
@@ -102,7 +99,7 @@ table-read c tables id own n around distinct out first tree d =
     let name = (names_of tables id).name in
     let columns = table_columns n.table.columns in
     let called : (names_of tables id).columns ≡ names columns = sym (names-known n.table.columns ∙ n.columns_are) in
-    let kinds_are : kinds_of_columns columns ≡ own = kinds-known n.table.columns ∙ n.kinds_are in
+    let kinds_are : column_kinds_of columns ≡ own = table-kinds n.table.columns ∙ n.kinds_are in
     let source : table_plain name n.table ≡ source_in c tables id own = sym (ap (λ entry. option_map_or (table_plain name) entry Single) n.found) in
     let o = opened-plain c (subst (λ all. IsCore (selected distinct (listed (naming (marks out) first) one (map (λ name. f.column (f.bare name)) all)) (f.from (f.table name) f.no_joins) f.no_condition []) tree) called d) in
     let has = has_some (map (from_of c) o.sources) in
@@ -110,8 +107,8 @@ table-read c tables id own n around distinct out first tree d =
     let list = table_listed c has columns name (in_clause scope around.outer true) around.outer columns refl refl refl (ap repeats (sym called) ∙ n.distinct) out first o.first o.rest in
     let from = table_from-read c around.outer name n.table n.found o.from in
     let core = core-read around (from_all around.outer (map (from_of c) o.sources)) has distinct (map (item_of c) (o.item ∷ o.items)) None (table_item c around.outer name n.table n.found ∷ [])
-    (table_plain name n.table) from None (listed_names out first (kinds_of_columns columns)) (shown_kinds (kinds_of_columns columns))
-    (λ n. or_unread unread_item (columns_from 0 (kinds_of_columns columns))) [] tt list in (
+    (table_plain name n.table) from None (listed_names out first (column_kinds_of columns)) (shown_kinds (column_kinds_of columns))
+    (λ n. or_unread unread_item (columns_from 0 (column_kinds_of columns))) [] tt list in (
       o.unasked,
       subst (λ m. QueryRead m (listed_names out first own) (shown_kinds own) (distinct_if distinct (given_of own 0 (source_in c tables id own)))) (sym (o.means around))
           (subst (λ q. QueryRead (core_over_parts c distinct (o.item ∷ o.items) o.sources None around) (listed_names out first own) (shown_kinds own) (distinct_if distinct (given_of own 0 q))) source

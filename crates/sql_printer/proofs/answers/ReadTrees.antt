@@ -4,9 +4,9 @@ use Rattle.std.proofs.lemmas.Option.{none-some}
 use Rattle.perm_values.specs.Rows.{KeysWithin}
 use Rattle.perm_values.specs.declared.key.Key.{Key}
 use Rattle.perm_values.specs.declared.kind.Kind.{Kind}
-use Rattle.bag_algebra.specs.Kinds.{kinds_in, kinds_of}
+use Rattle.bag_algebra.specs.Kinds.{kinds_in, kinds_of, item_kinds}
 use Rattle.bag_algebra.specs.TablesRead.{EachSubTable, EachTable}
-use Rattle.bag_algebra.specs.WellFormed.{KeysIn, SubsForm, WellFormed, column_kind, sub_kinds}
+use Rattle.bag_algebra.specs.WellFormed.{SubsForm, WellFormed, column_kind, sub_kinds}
 use Rattle.bag_algebra.specs.built.Patterns.{BaseOf, FilterOf, ProjectOf, JoinOf, ApplyOf, UnionOf, IntersectOf, ExceptOf, DistinctOf, AggregateOf, LimitOf, ProvOf}
 use Rattle.bag_algebra.specs.declared.query.Aggr.{Aggr}
 use Rattle.bag_algebra.specs.declared.query.Query.{Query, Row_of-Sublink, more_of-Sublink, end_of-Sublink}
@@ -50,7 +50,6 @@ use Rattle.sql_printer.proofs.cores.ReadCopies.{columns-listed}
 use Rattle.sql_printer.proofs.cores.ReadCores.{FromRead, core-read}
 use Rattle.sql_printer.proofs.cores.ReadFroms.{listed_names}
 use Rattle.sql_printer.proofs.groups.ReadGroups.{in_groups-read}
-use Rattle.sql_printer.proofs.cores.ReadItems.{kinds_of_items}
 use Rattle.sql_printer.proofs.cores.ReadQueries.{CoreRead, alone-read, one-read}
 use Rattle.sql_printer.proofs.expressions.ReadScopes.{finds}
 use Rattle.sql_printer.proofs.cores.ReadSets.{intersected-read, united-read}
@@ -119,7 +118,7 @@ length-numbered : (out first : ℕ) (kinds : List Kind) → length (numbered_nam
 length-numbered out first [] = refl
 length-numbered out first (kind ∷ kinds) = ap suc (length-numbered out (suc first) kinds)
 
-keys-within : (own : List Kind) (out first : ℕ) (keys : List Key) → KeysIn (length own) keys
+keys-within : (own : List Kind) (out first : ℕ) (keys : List Key) → KeysWithin (length own) keys
     → KeysWithin (length (out_columns (listed_names out first own) (shown_kinds own))) (all_keys (length own) keys)
 keys-within [] out first [] h = λ k d within. absurd (omega (arith, within))
 keys-within [] out first (key ∷ keys) h = let low = h 0 key (omega arith) in absurd (omega (arith, low))
@@ -175,7 +174,7 @@ module _ (c : Contents) (tables : List TableNames) where
         let asked = printed_subs source (own ∷ outer) (front ∷ unread) subs in
         let forms = sub_forms tables prefix subs in
         let plain = plain-sub_forms tables prefix subs in
-        select-form c depth outer unread (kinds_of_items items)
+        select-form c depth outer unread (item_kinds items)
         (λ distinct out. selected distinct (projected prefix out forms (spare (items_use items) 0 forms) items) (sources given.block) given.test [])
         (printing.projected (front ∷ unread) asked items r.block)
         (λ around s distinct out first tree d. let block = below.block narrow.0 around.outer s in

@@ -4,6 +4,7 @@ use Rattle.std.proofs.lemmas.List.{length-append}
 use Rattle.std.specs.Prelude.{slice_get}
 use Rattle.perm_values.specs.declared.kind.Kind.{Kind}
 use Rattle.perm_values.specs.declared.kind.Kind.TheVariants as kinds
+use Rattle.bag_algebra.specs.Kinds.{item_kinds}
 use Rattle.bag_algebra.specs.WellFormed.{HasKind, ItemsForm}
 use Rattle.bag_algebra.specs.declared.expr.Expr.{Expr}
 use Rattle.bag_algebra.specs.declared.expr.Item.{Item}
@@ -46,7 +47,7 @@ use Rattle.sql_printer.proofs.cores.ReadCopies.{columns-listed}
 use Rattle.sql_printer.proofs.cores.ReadCores.{Condition, FromRead, TestRead, WhereRead, core-read, tested}
 use Rattle.sql_printer.specs.cores.Queries.{QueryRead}
 use Rattle.sql_printer.proofs.cores.ReadFroms.{listed_names}
-use Rattle.sql_printer.proofs.cores.ReadItems.{kinds_of_items, projected-read}
+use Rattle.sql_printer.proofs.cores.ReadItems.{projected-read}
 use Rattle.sql_printer.proofs.cores.ReadLaterals.{beside}
 use Rattle.sql_printer.proofs.cores.ReadLists.{ListRead}
 use Rattle.sql_printer.proofs.cores.ReadQueries.{CoreRead, alone-read}
@@ -186,12 +187,12 @@ module _ (c : Contents) (depth : ℕ) (outer : List (List Kind)) (unread : List 
       → (items : List Item) → ItemsForm (own ∷ outer) all items → WritableItems items → AllPlain forms → AllPlain (spare (items_use items) 0 forms)
       → (distinct : Bool) (out first : ℕ) (tree : Core)
       → IsCore (selected distinct (projected (marks (suc depth)) (naming (marks out) first) forms (spare (items_use items) 0 forms) items) (sources chain) test []) tree
-      → CoreRead c around (listed_names out first (kinds_of_items items)) (shown_kinds (kinds_of_items items)) (distinct_if distinct (printing.projected (front ∷ unread) asked items q)) tree
+      → CoreRead c around (listed_names out first (item_kinds items)) (shown_kinds (item_kinds items)) (distinct_if distinct (printing.projected (front ∷ unread) asked items q)) tree
   projection-read around own front chain test q block s forms asked all sublinks items h w plain unused distinct out first tree d =
       let here = in_clause (scope_of block.items) around.outer true in
       let found = finds (suc depth) (own ∷ outer) (front ∷ unread) (scope_of block.items ∷ around.outer) (block.scope, s) in
       select-read c (suc depth) around own front chain test q block distinct (projected (marks (suc depth)) (naming (marks out) first) forms (spare (items_use items) 0 forms) items)
-      (listed_names out first (kinds_of_items items)) (shown_kinds (kinds_of_items items)) (first_beside (front ∷ unread) (length (idle (items_use items) (length asked))) items)
+      (listed_names out first (item_kinds items)) (shown_kinds (item_kinds items)) (first_beside (front ∷ unread) (length (idle (items_use items) (length asked))) items)
       (taken asked (idle (items_use items) (length asked) ++ asked_by items))
       (λ has item more e es.
       let p = projected-read c (marks (suc depth)) forms asked (own ∷ outer) all (front ∷ unread) here found (sublinks here refl refl refl) refl plain has (scope_of block.items) items h w unused out first e es in

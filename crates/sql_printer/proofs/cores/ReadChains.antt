@@ -19,9 +19,10 @@ use Rattle.sql_tree.specs.declared.source.FromTree.{FromTree, roll-FromTree}
 use Rattle.sql_tree.specs.declared.source.JoinStep.{JoinStep}
 use Rattle.sql_tree.specs.declared.source.ScopeMark.TheVariants.{Plain}
 use Rattle.name_meaning.proofs.Equations.{fromtree-record, token}
-use Rattle.name_meaning.specs.Froms.{FromMeant, FromPart, ItemMeant, JoinPart, applied, beside_items, both_known, first_item, from_all, in_from, in_on, item_meant, join_all, join_item, joined as joined_by, joined_item, named_so, on_meant, read_query, scope_items}
+use Rattle.name_meaning.proofs.Joins.{joins-so-far, columns_from-append}
+use Rattle.name_meaning.specs.Froms.{FromMeant, FromPart, ItemMeant, applied, beside_items, both_known, first_item, from_all, in_from, in_on, item_meant, join_all, join_item, joined as joined_by, joined_item, named_so, on_meant, read_query, scope_items, named_columns}
 use Rattle.name_meaning.specs.Meanings.{QueryMeant, broken_if}
-use Rattle.name_meaning.specs.Scopes.{ScopeItem, columns_from, numbered_columns, scope_of}
+use Rattle.name_meaning.specs.Scopes.{ScopeItem, numbered_columns, scope_of}
 use Rattle.name_meaning.specs.Trees.{from_item_of, from_of, join_of, part_of, query_of}
 use Rattle.name_meaning.specs.declared.rule.Rule.TheVariants as rule
 use Rattle.name_meaning.specs.declared.scope.Scope.{Scope}
@@ -37,7 +38,7 @@ use Rattle.sql_printer.specs.rows.Printed.{lateral_kind, unread_of}
 use Rattle.sql_printer.proofs.rows.ShownRows.{shown_kinds}
 use Rattle.sql_printer.proofs.cores.ReadCores.{Condition, FromRead, TestRead}
 use Rattle.sql_printer.specs.cores.Queries.{QueryRead, numbered_names}
-use Rattle.sql_printer.proofs.cores.ReadFroms.{item-is, item_of_query, known_columns, listed_names, numbered-columns, query_item-read}
+use Rattle.sql_printer.proofs.cores.ReadFroms.{item-is, item_of_query, listed_names, numbered-columns, query_item-read}
 use Rattle.sql_printer.proofs.cores.ReadJoins.{join-known, numbered-append, step-on, words-plain}
 use Rattle.sql_printer.proofs.cores.ReadLaterals.{beside, step-lateral, words-kind, words-lateral}
 use Rattle.sql_printer.specs.expressions.Scopes.{IsScope, Numbered, marks}
@@ -85,7 +86,7 @@ one-ends depth name [] bound = record {
 one-ends depth name (kind ∷ more) bound = record {
   is = record {
     unread = [];
-    own = numbered_columns 0 (known_columns (numbered_names depth 1 (kind ∷ more)) (kind ∷ more));
+    own = numbered_columns 0 (named_columns (numbered_names depth 1 (kind ∷ more)) (kind ∷ more));
     back = [];
     columns = refl;
     before = tt;
@@ -97,13 +98,6 @@ one-ends depth name (kind ∷ more) bound = record {
   };
   none_behind = refl;
 }
-
-columns-append : (number : ℕ) (items more : List ScopeItem) → columns_from number (items ++ more) ≡ columns_from number items ++ columns_from (number + length items) more
-columns-append number [] more = let none : number ≡ number + 0 = omega arith in ap (λ n. columns_from n more) none
-columns-append number (item ∷ items) more =
-    let next : suc number + length items ≡ number + suc (length items) = omega arith in
-    ap (λ cs. numbered_columns number item.columns ++ cs) (columns-append (suc number) items more ∙ ap (λ n. columns_from (suc number) items ++ columns_from n more) next)
-    ∙ sym (append_assoc (numbered_columns number item.columns) (columns_from (suc number) items) (columns_from (number + suc (length items)) more))
 
 -- behind such a scope stand the columns of one more query
 abbrev pub one_more : ℕ → List ScopeItem → List Kind → List Kind → List ScopeItem
@@ -121,7 +115,7 @@ module _ (depth front : ℕ) (items : List ScopeItem) (left : List Kind) (s : En
     unread = s.is.unread;
     own = s.is.own;
     back = record { item = 0 + length items; name = marks depth ++ decimal 0; kind = kinds.Integer } ∷ [];
-    columns = columns-append 0 items (item_of_query (source_name (length left + 1)) (listed_names depth (length left + 1) []) (shown_kinds []) ∷ [])
+    columns = columns_from-append 0 items (item_of_query (source_name (length left + 1)) (listed_names depth (length left + 1) []) (shown_kinds []) ∷ [])
         ∙ last-columns (record { item = 0 + length items; name = marks depth ++ decimal 0; kind = kinds.Integer } ∷ []);
     before = s.is.before;
     count = s.is.count;
@@ -133,12 +127,12 @@ module _ (depth front : ℕ) (items : List ScopeItem) (left : List Kind) (s : En
   extended (kind ∷ right) bound =
       let number = length left + 1 in
       let turned : number ≡ 1 + length left = omega arith in
-      let ys = numbered_columns (0 + length items) (known_columns (numbered_names depth number (kind ∷ right)) (kind ∷ right)) in
+      let ys = numbered_columns (0 + length items) (named_columns (numbered_names depth number (kind ∷ right)) (kind ∷ right)) in
       record {
         unread = s.is.unread;
         own = s.is.own ++ ys;
         back = [];
-        columns = columns-append 0 items (item_of_query (source_name number) (listed_names depth number (kind ∷ right)) (shown_kinds (kind ∷ right)) ∷ [])
+        columns = columns_from-append 0 items (item_of_query (source_name number) (listed_names depth number (kind ∷ right)) (shown_kinds (kind ∷ right)) ∷ [])
             ∙ ap (λ more. (scope_of items).columns ++ more) (append-nil ys) ∙ last-columns ys ∙ ap (λ own. s.is.unread ++ own) (sym (append-nil (s.is.own ++ ys)));
         before = s.is.before;
         count = s.is.count;
@@ -185,10 +179,6 @@ split (f.a_lateral stays q name more) last (a_lateral_tree {step = step} item is
       second = rest.second;
     }
 
-join_all-append : (outer : List Scope) (left : FromMeant) (first more : List JoinPart) → join_all outer left (first ++ more) ≡ join_all outer (join_all outer left first) more
-join_all-append outer left [] more = refl
-join_all-append outer left (step ∷ first) more = join_all-append outer (join_item outer left step (joined_item outer left step)) first more
-
 module _ (c : Contents) (depth : ℕ) (above : List Scope) where
   -- what a tree of FROM means
   abbrev pub chain_meant : FromItem → List JoinStep → FromMeant
@@ -205,7 +195,7 @@ module _ (c : Contents) (depth : ℕ) (above : List Scope) where
   one-more-meant : (item : FromItem) (steps : List JoinStep) (step : JoinStep) → chain_meant item (steps ++ step ∷ []) ≡ step_meant (chain_meant item steps) step
   one-more-meant item steps step =
       let start = first_item [] ((from_item_of c item).means (in_from above) []) in
-      ap (join_all above start) (map-append (join_of c) steps (step ∷ [])) ∙ join_all-append above start (map (join_of c) steps) (join_of c step ∷ [])
+      ap (join_all above start) (map-append (join_of c) steps (step ∷ [])) ∙ joins-so-far above start (map (join_of c) steps) (join_of c step ∷ [])
 
   -- it is read as a query with these items, whose names are those of lower numbers
   pub record Joinable (own : List Kind) (items : List ScopeItem) (q : Query) (m : FromMeant) : Type 0 where

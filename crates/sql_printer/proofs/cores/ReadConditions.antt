@@ -1,6 +1,6 @@
 -- The first expression of a clause is read beside the sublinks that nothing of the clause uses.
 use Rattle.std.proofs.Common.{◌≡◌, ℕ, zero, suc, ◌+◌, ◌<◌, Bool, true, false, cond, List, [], ◌∷◌, ◌++◌, length, map, refl, sym, ap, subst, ◌∙◌, append-nil, arith}
-use Rattle.std.proofs.lemmas.Option.{none-some}
+use Rattle.std.proofs.lemmas.Option.{none-some, same_Some}
 use Rattle.std.proofs.lemmas.List.{length-map}
 use Rattle.std.specs.Prelude.{slice_index_or}
 use Rattle.std.specs.List.{range_with_len}
@@ -33,7 +33,6 @@ use Rattle.sql_printer.specs.expressions.Reading.{Finds, FindsSublinks, IsRead}
 use Rattle.sql_printer.proofs.expressions.ReadExpressions.{cased-read, expr-read, null-read, taken-append}
 use Rattle.sql_printer.proofs.expressions.ReadForms.{IsArmTree, arm_part}
 use Rattle.sql_printer.proofs.expressions.ReadLeaves.{null_literal-read}
-use Rattle.sql_printer.proofs.expressions.ReadScopes.{some-same}
 use Rattle.sql_printer.proofs.expressions.ReadNodes.{ArmsRead, arm-read, no_arms-read}
 
 -- ---- sublinks
@@ -57,7 +56,7 @@ module _ (c : Contents) (here : Surroundings) where
   sublinks-found [] (sub ∷ subs) (own ∷ all) r number kind e tree d = absurd r
   sublinks-found (form ∷ forms) [] (own ∷ all) r number kind e tree d = absurd r
   sublinks-found (form ∷ forms) (sub ∷ subs) (own ∷ all) r zero kind e tree d =
-      subst (λ k. IsRead ((part_of c tree).means here) k (λ n. Sub n) (sub ∷ [])) (some-same own kind e) (r.0 tree d)
+      subst (λ k. IsRead ((part_of c tree).means here) k (λ n. Sub n) (sub ∷ [])) (same_Some own kind e) (r.0 tree d)
   sublinks-found (form ∷ forms) (sub ∷ subs) (own ∷ all) r (suc number) kind e tree d = sublinks-found forms subs all r.1 number kind e tree d
 
   -- of whatever kinds

@@ -14,9 +14,9 @@ use Rattle.sql_tree.specs.declared.source.FromTree.{FromTree, roll-FromTree}
 use Rattle.sql_tree.specs.declared.source.ScopeMark.{ScopeMark}
 use Rattle.sql_tree.specs.declared.source.ScopeMark.TheVariants.{Plain}
 use Rattle.name_meaning.proofs.Equations.{fromitem-record, fromsource-inner, fromtree-record, token}
-use Rattle.name_meaning.specs.Froms.{FromItemPart, FromPart, ItemMeant, SourcePart, external, first_item, from_all, in_from, item_meant, label_of, names_of, read_of, read_query, scope_name, settled_columns}
+use Rattle.name_meaning.specs.Froms.{FromItemPart, FromPart, ItemMeant, SourcePart, external, first_item, from_all, in_from, item_meant, label_of, names_of, read_of, read_query, scope_name, settled_columns, named_columns}
 use Rattle.name_meaning.specs.Meanings.{Around, QueryMeant}
-use Rattle.name_meaning.specs.Scopes.{KnownColumn, ScopeItem, numbered_columns, scope_of}
+use Rattle.name_meaning.specs.Scopes.{ScopeItem, numbered_columns, scope_of}
 use Rattle.name_meaning.specs.Trees.{from_item_of, from_of, query_of, source_of}
 use Rattle.name_meaning.specs.declared.scope.Scope.{Scope}
 use Rattle.tree_texts.specs.Forms as f
@@ -34,12 +34,7 @@ abbrev pub listed_names : ℕ → ℕ → List Kind → List (List ℕ)
 listed_names depth number [] = (marks depth ++ decimal 0) ∷ []
 listed_names depth number (kind ∷ more) = numbered_names depth number (kind ∷ more)
 
-abbrev pub known_columns : List (List ℕ) → List Kind → List KnownColumn
-known_columns [] all = []
-known_columns (name ∷ names) [] = []
-known_columns (name ∷ names) (kind ∷ more) = record { name = name; kind = kind } ∷ known_columns names more
-
-pub columns-settled : (names : List (List ℕ)) (all : List Kind) → settled_columns (out_columns names all) ≡ known_columns names all
+pub columns-settled : (names : List (List ℕ)) (all : List Kind) → settled_columns (out_columns names all) ≡ named_columns names all
 columns-settled [] all = refl
 columns-settled (name ∷ names) [] = refl
 columns-settled (name ∷ names) (kind ∷ more) = ap (λ others. record { name = name; kind = kind } ∷ others) (columns-settled names more)
@@ -47,7 +42,7 @@ columns-settled (name ∷ names) (kind ∷ more) = ap (λ others. record { name 
 -- ---- one subquery
 
 abbrev pub item_of_query : List ℕ → List (List ℕ) → List Kind → ScopeItem
-item_of_query name names all = record { name = name; columns = known_columns names all }
+item_of_query name names all = record { name = name; columns = named_columns names all }
 
 plain-of : (m : QueryMeant) (names : List (List ℕ)) (places : Option (List ℕ)) (q : Query) → places ≡ None → m.make [] ≡ q
     → option_map_or (external (m.make []) names) places (m.make []) ≡ q
@@ -95,7 +90,7 @@ module _ (c : Contents) (outer : List Scope) where
 
 -- ---- its scope
 
-pub numbered-columns : (depth number item : ℕ) (all : List Kind) → Numbered depth number all (numbered_columns item (known_columns (numbered_names depth number all) all))
+pub numbered-columns : (depth number item : ℕ) (all : List Kind) → Numbered depth number all (numbered_columns item (named_columns (numbered_names depth number all) all))
 numbered-columns depth number item [] = tt
 numbered-columns depth number item (kind ∷ more) = (refl, refl, numbered-columns depth (suc number) item more)
 
@@ -116,7 +111,7 @@ scope-over depth name [] bound = record {
 }
 scope-over depth name (kind ∷ more) bound = record {
   unread = [];
-  own = numbered_columns 0 (known_columns (numbered_names depth 1 (kind ∷ more)) (kind ∷ more));
+  own = numbered_columns 0 (named_columns (numbered_names depth 1 (kind ∷ more)) (kind ∷ more));
   back = [];
   columns = refl;
   before = tt;

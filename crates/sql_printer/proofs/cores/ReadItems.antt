@@ -2,6 +2,7 @@
 use Rattle.std.proofs.Common.{◌≡◌, ℕ, suc, ◌+◌, Bool, false, List, [], ◌∷◌, ◌++◌, length, length-append, map, refl, sym, ap, subst, ◌∙◌, append-nil, append_assoc, arith}
 use Rattle.perm_values.specs.declared.kind.Kind.{Kind}
 use Rattle.perm_values.specs.declared.kind.Kind.TheVariants as kinds
+use Rattle.bag_algebra.specs.Kinds.{item_kinds}
 use Rattle.bag_algebra.specs.WellFormed.{ItemsForm}
 use Rattle.bag_algebra.specs.declared.expr.Expr.{Expr}
 use Rattle.bag_algebra.specs.declared.expr.Item.{Item}
@@ -33,9 +34,6 @@ use Rattle.sql_printer.proofs.cores.ReadConditions.{SubsRead, beside-first, besi
 use Rattle.sql_printer.proofs.cores.ReadFroms.{listed_names}
 use Rattle.sql_printer.proofs.cores.ReadLists.{ListRead, item-read, item_at, no_items-read}
 
-abbrev pub kinds_of_items : List Item → List Kind
-kinds_of_items items = map (λ (item : Item). item.kind) items
-
 module _ (c : Contents) (prefix : List ℕ) (forms : List ExprForm) (asked : List Sublink) (scopes : List (List Kind)) (all : List Kind) (unread : List ℕ) (here : Surroundings)
     (finds : Finds prefix scopes unread here.scopes) (sublinks : SubsRead c here forms asked all) (outside : here.argument ≡ false) (plain : AllPlain forms)
     (has_from : Bool) (scope : Scope) where
@@ -45,16 +43,16 @@ module _ (c : Contents) (prefix : List ℕ) (forms : List ExprForm) (asked : Lis
   -- the items behind others
   items-read : (items : List Item) → ItemsForm scopes all items → WritableItems items → (out first : ℕ) {trees : List SelectItem}
       → AreItems (named_from (marks out) first (map shown_item items)) trees
-      → ListRead has_from scope here (map (item_of c) trees) (numbered_names out first (kinds_of_items items)) (kinds_of_items items) (λ n. printed_items unread n items) (taken asked (asked_by items))
+      → ListRead has_from scope here (map (item_of c) trees) (numbered_names out first (item_kinds items)) (item_kinds items) (λ n. printed_items unread n items) (taken asked (asked_by items))
   items-read [] form w out first no_item_trees = no_items-read has_from scope here
   items-read (item ∷ items) form w out first (an_item_tree {item = tree} {items = trees} d ds) =
       let next : first + 1 ≡ suc first = omega arith in
       let numbers = asked_in item.expr in
       let rest = items-read items (λ k e h. form (suc k) e (omega (arith, h))) w.1 out (suc first)
       (subst (λ m. AreItems (named_from (marks out) m (map shown_item items)) trees) next ds) in
-      subst (ListRead has_from scope here (map (item_of c) (tree ∷ trees)) (numbered_names out first (kinds_of_items (item ∷ items))) (kinds_of_items (item ∷ items)) (λ n. printed_items unread n (item ∷ items)))
+      subst (ListRead has_from scope here (map (item_of c) (tree ∷ trees)) (numbered_names out first (item_kinds (item ∷ items))) (item_kinds (item ∷ items)) (λ n. printed_items unread n (item ∷ items)))
       (sym (taken-append asked numbers (asked_by items)))
-      (item-read c has_from scope here trees (numbered_names out (suc first) (kinds_of_items items)) item.kind (kinds_of_items items) (λ n. printed_expr unread n item.expr)
+      (item-read c has_from scope here trees (numbered_names out (suc first) (item_kinds items)) item.kind (item_kinds items) (λ n. printed_expr unread n item.expr)
       (λ n. printed_items unread n items) (taken asked numbers) (taken asked (asked_by items)) (length numbers) d
       (λ tree e. plain-tree c (plain-shown prefix forms plain item.expr) e)
       (λ tree e. expr-read c prefix forms asked scopes all unread here finds (sublinks-found c here forms asked all sublinks) outside item.expr item.kind (form 0 item (omega arith)) w.0 e)
@@ -63,7 +61,7 @@ module _ (c : Contents) (prefix : List ℕ) (forms : List ExprForm) (asked : Lis
   -- the list of a projection
   pub record ProjectedRead (items : List Item) (out first : ℕ) (trees : List SelectItem) : Type 0 where
     pub made : ℕ → List Item
-    pub read : ListRead has_from scope here (map (item_of c) trees) (listed_names out first (kinds_of_items items)) (shown_kinds (kinds_of_items items)) made
+    pub read : ListRead has_from scope here (map (item_of c) trees) (listed_names out first (item_kinds items)) (shown_kinds (item_kinds items)) made
         (taken asked (idle (items_use items) (length asked) ++ asked_by items))
     pub whole : made 0 ≡ first_beside unread (length (idle (items_use items) (length asked))) items
 
@@ -111,7 +109,7 @@ module _ (c : Contents) (prefix : List ℕ) (forms : List ExprForm) (asked : Lis
       ∙ ap (λ more. taken asked spared ++ more) (sym (taken-append asked numbers (asked_by items))) ∙ sym (taken-append asked spared (asked_by every)) in
       let counted : length (taken asked spared ++ taken asked numbers) ≡ length (spared ++ numbers) =
       ap length (sym (taken-append asked spared numbers)) ∙ taken-count asked (spared ++ numbers) in
-      let own = item-read c has_from scope here trees (numbered_names out (suc first) (kinds_of_items items)) item.kind (kinds_of_items items)
+      let own = item-read c has_from scope here trees (numbered_names out (suc first) (item_kinds items)) item.kind (item_kinds items)
       (λ n. beside_from n item.kind count (printed_expr unread (n + count) item.expr)) (λ n. printed_items unread n items)
       (taken asked spared ++ taken asked numbers) (taken asked (asked_by items)) (length (spared ++ numbers)) d
       (λ tree e. plain-tree c (plain-beside item.kind (left_over every) (shown_item item) unused (plain-shown prefix forms plain item.expr)) e)
@@ -122,7 +120,7 @@ module _ (c : Contents) (prefix : List ℕ) (forms : List ExprForm) (asked : Lis
       let behind : 0 + length (spared ++ numbers) ≡ count + length numbers = omega (arith, length-append spared numbers) in
       record {
         made = made;
-        read = subst (ListRead has_from scope here (map (item_of c) (tree ∷ trees)) (numbered_names out first (kinds_of_items every)) (kinds_of_items every) made) subs_are own;
+        read = subst (ListRead has_from scope here (map (item_of c) (tree ∷ trees)) (numbered_names out first (item_kinds every)) (item_kinds every) made) subs_are own;
         whole = (λ i. item_at item.kind (beside_from 0 item.kind count (printed_expr unread (none i) item.expr)) ∷ printed_items unread (behind i) items)
             ∙ ap (λ e. item_at item.kind e ∷ printed_items unread (count + length numbers) items) (beside-first item.kind count (printed_expr unread count item.expr));
       }

@@ -6,11 +6,11 @@ use Rattle.bag_algebra.specs.Fits.{TablesFit, bag_fits}
 use Rattle.bag_algebra.specs.Kinds.{kinds_of, width_of}
 use Rattle.bag_algebra.specs.Meaning.{Database}
 use Rattle.bag_algebra.specs.TablesRead.{EachTable}
-use Rattle.bag_algebra.specs.WellFormed.{KeysIn}
 use Rattle.bag_algebra.specs.declared.query.Answer.{Answer}
 use Rattle.perm_catalog.specs.Columns.{column_kinds}
 use Rattle.perm_catalog.specs.Contents.{Contents}
 use Rattle.perm_catalog.specs.Sound.{IsSoundAnswer}
+use Rattle.perm_values.specs.Rows.{KeysWithin}
 use Rattle.perm_values.specs.declared.key.Key.{Key}
 use Rattle.perm_values.specs.declared.kind.Kind.{Kind}
 use Rattle.perm_values.specs.declared.no_memory.NoMemory.{NoMemory}
@@ -34,7 +34,7 @@ module _ (c : Contents) (answer plain : Answer) (can : CanExplain c answer) (sta
     closed = stands.query.formed [] can.is.closed;
     some = subst (λ (n : ℕ). 0 < n) (sym width-is) can.is.some;
     named = ap (λ (names : List (List ℕ)). length names) stands.names ∙ can.is.named ∙ sym width-is;
-    keys = subst (λ (n : ℕ). KeysIn n plain.keys) (sym width-is) (subst (KeysIn (width_of answer.query)) (sym stands.keys) can.is.keys);
+    keys = subst (λ (n : ℕ). KeysWithin n plain.keys) (sym width-is) (subst (KeysWithin (width_of answer.query)) (sym stands.keys) can.is.keys);
   }
 
   pub plain-held : EachTable (IsHeldTable c) plain.query

@@ -1,5 +1,5 @@
 -- What a text is read as, and what that says.
-use Rattle.std.proofs.Common.{◌≡◌, ◌∙◌, ℕ, ◌-◌, Bool, true, cond, nat_eq, List, [], ◌∷◌, ◌++◌, length, take, drop, Option, Some, None, Result, Ok, Err, IfOk, refl, sym, ap, subst, arith}
+use Rattle.std.proofs.Common.{◌≡◌, ◌∙◌, ℕ, ◌-◌, Bool, true, nat_eq, List, [], ◌∷◌, ◌++◌, length, take, drop, Option, Some, None, Result, Ok, Err, IfOk, refl, sym, ap, subst, arith}
 use Rattle.std.specs.Prelude.{codes}
 use Rattle.std.specs.Cmp.Lexicographic.{same_text}
 use Rattle.std.specs.List.{ends_with, list_all}
@@ -7,9 +7,7 @@ use Rattle.std.proofs.lemmas.List.{take-append-drop}
 use Rattle.statement_meaning.specs.explains.Explains.{Explains, MeansTheSame, is_plain_word, one_select, read_as}
 use Rattle.bag_algebra.specs.declared.query.Answer.{Answer}
 use Rattle.sql_printer.specs.explained.Reading.{IsPlainText, OnlyQuery, PlainText, ReadAgain, SaidOf, explain_of}
-use Rattle.name_meaning.specs.Meanings.{is_whole}
 use Rattle.name_meaning.specs.Statements.{breaks, limit_breaks, name_breaks, resolved}
-use Rattle.name_meaning.specs.declared.answer.Break.{Break}
 use Rattle.name_meaning.specs.declared.answer.Resolved.{Resolved}
 use Rattle.name_meaning.specs.declared.answer.Resolved.TheVariants as r
 use Rattle.name_statements.specs.Resolves.{IsResolved}
@@ -25,12 +23,8 @@ use Rattle.sql_tree.specs.declared.statement.Script.{Script}
 use Rattle.sql_tree.specs.declared.statement.Statement.{Statement}
 use Rattle.sql_tree.specs.declared.statement.StatementBody.{StatementBody}
 use Rattle.sql_tree.specs.declared.statement.StatementBody.TheVariants.{Explain, Select}
+use Rattle.name_meaning.proofs.Impacts.{earlier-none}
 use Rattle.statement_meaning.specs.Ready.{IsReady}
-
--- where limits are looked at, names break nothing
-names-whole : (found limits : List Break) → cond (is_whole found) limits found ≡ [] → found ≡ []
-names-whole [] limits none = refl
-names-whole (b ∷ found) limits none = none
 
 -- a text that ends in these bytes is some others and these
 pub ended-by : (text needle : List ℕ) → true ≡ ends_with nat_eq text needle → (front : List ℕ) × (text ≡ front ++ needle)
@@ -81,7 +75,7 @@ module _ (c : Contents) (text : List ℕ) (statement : Statement) (p : IsPlainTe
     made-is = is.is ∙ ap (λ (s : Statement). resolved c s) p.asks
 
     whole : name_breaks c (Select p.tree) ≡ []
-    whole = names-whole (name_breaks c (Explain p.tree)) (limit_breaks c (Explain p.tree))
+    whole = earlier-none (name_breaks c (Explain p.tree)) (limit_breaks c (Explain p.tree))
         (subst (λ (s : Statement). breaks c s ≡ []) p.asks is.whole)
 
     pub ready : IsSound c → ((bytes : List ℕ) (tokens : List Token) (script : Script) → Lexes bytes tokens → Spells tokens script → Regular script)

@@ -1,6 +1,6 @@
 -- Columns with printed names are found where they stand: in a scope whose columns are numbered, and through scopes further in.
 use Rattle.std.proofs.Common.{◌≡◌, ◌≢◌, ℕ, zero, suc, ◌+◌, ◌<◌, ◌^◌, Bool, true, false, cond, List, [], ◌∷◌, ◌++◌, length, filter, drop, Some, None, refl, sym, ap, subst, ◌∙◌, append-nil, arith}
-use Rattle.std.proofs.lemmas.Option.{none-some}
+use Rattle.std.proofs.lemmas.Option.{none-some, same_Some}
 use Rattle.std.specs.Prelude.{nat_eq, slice_get}
 use Rattle.std.specs.Cmp.Lexicographic.{bytes_decides, pointwise}
 use Rattle.std.specs.Fmt.{decimal}
@@ -49,9 +49,6 @@ numbers-same (suc a) (suc b) m n p q e =
     (ap suc rest.0, rest.1)
 
 -- ---- columns of a scope
-
-pub some-same : (a b : Kind) → Some a ≡ Some b → a ≡ b
-some-same a b e = cc
 
 -- none has the name
 abbrev pub Unnamed : List ℕ → List ScopeColumn → Type 0
@@ -111,7 +108,7 @@ one-called depth number start zero (own ∷ kinds) (column ∷ columns) back kin
       column = column;
       is = ap (λ b. cond b ((start, column) ∷ rest) rest) called ∙ ap (λ more. (start, column) ∷ more) (none-called name (start + 1) (columns ++ back) (unnamed-append name columns back later u))
           ∙ ap (λ n. (n, column) ∷ []) here;
-      kind_is = h.1 ∙ some-same own kind e;
+      kind_is = h.1 ∙ same_Some own kind e;
     }
 one-called depth number start (suc place) (own ∷ kinds) (column ∷ columns) back kind h e bound u =
     let next : suc number + place ≡ number + suc place = omega arith in

@@ -6,10 +6,11 @@ use Rattle.std.specs.Str.{IsAscii, IsUtf8}
 use Rattle.std.proofs.lemmas.List.Elements.{All-head, All-tail}
 use Rattle.std.proofs.lemmas.Str.{IsUtf8-from_ascii, IsUtf8-nil}
 use Rattle.std.proofs.lemmas.Str.Ascii.{IsAscii-cons, IsAscii-nil}
+use Rattle.perm_values.specs.Rows.{KeysWithin}
 use Rattle.perm_values.specs.declared.key.Key.{Key}
 use Rattle.perm_values.specs.declared.kind.Kind.TheVariants as kinds
 use Rattle.bag_algebra.specs.Kinds.{kinds_of, width_of}
-use Rattle.bag_algebra.specs.WellFormed.{KeysIn, SubsForm, WellFormed}
+use Rattle.bag_algebra.specs.WellFormed.{SubsForm, WellFormed}
 use Rattle.bag_algebra.specs.built.Patterns.{BaseOf, FilterOf, ProjectOf, JoinOf, ApplyOf, UnionOf, IntersectOf, ExceptOf, DistinctOf, AggregateOf, LimitOf, ProvOf}
 use Rattle.bag_algebra.specs.declared.expr.Expr.{Expr}
 use Rattle.bag_algebra.specs.declared.expr.Item.{Item}
@@ -90,7 +91,7 @@ table-columns-fit (name ∷ names) p = (p.0, table-columns-fit names p.1)
 
 -- ---- numbers
 
-keys-fit : (width : ℕ) (keys : List Key) → 1 + width < 2 ^ 63 → KeysIn width keys → AllByRecursion FitsKey (map key_form keys)
+keys-fit : (width : ℕ) (keys : List Key) → 1 + width < 2 ^ 63 → KeysWithin width keys → AllByRecursion FitsKey (map key_form keys)
 keys-fit width [] short within = tt
 keys-fit width (key ∷ keys) short within =
     let here : key.place < width = All-head (λ (k : Key). k.place < width) key keys within in
@@ -342,7 +343,7 @@ module _ (tables : List TableNames) (all : AllByRecursion AreCharacters tables) 
   called-fits (name ∷ names) p = (fits-name outermost outermost-ascii 0 1, p.0, called-fit 2 names p.1)
 
   pub answer-fits : (q : Query) (names : List (List ℕ)) (keys : List Key) → WellFormed [] q → Printable q
-      → AllByRecursion IsUtf8 names → KeysIn (width_of q) keys → FitsQuery (shown_answer tables q names keys)
+      → AllByRecursion IsUtf8 names → KeysWithin (width_of q) keys → FitsQuery (shown_answer tables q names keys)
   answer-fits q names keys form p named_so within =
       let list = called-fits names named_so in
       let given = framed-fits outermost outermost-ascii q [] form p in

@@ -4,6 +4,7 @@ use Rattle.std.specs.List.{range_with_len}
 use Rattle.std.specs.Prelude.{drop, slice_get, take}
 use Rattle.perm_values.specs.declared.kind.Kind.{Kind}
 use Rattle.perm_values.specs.declared.kind.Kind.TheVariants as kinds
+use Rattle.bag_algebra.specs.Kinds.{aggregate_kinds}
 use Rattle.bag_algebra.specs.declared.expr.Expr.{Expr}
 use Rattle.bag_algebra.specs.declared.expr.Expr.TheVariants.{Col}
 use Rattle.bag_algebra.specs.declared.expr.Item.{Item}
@@ -40,7 +41,6 @@ use Rattle.sql_printer.specs.expressions.Scopes.{marks}
 use Rattle.sql_printer.proofs.expressions.ReadParts.{read-seen}
 use Rattle.sql_printer.specs.cores.Queries.{numbered_names}
 use Rattle.sql_printer.proofs.cores.ReadLists.{item_at, known-next, named_part, part-is, seen_in, titles}
-use Rattle.sql_printer.specs.groups.Groups.{kinds_of_aggrs}
 
 -- ---- one expression over groups
 
@@ -220,14 +220,14 @@ module _ (c : Contents) (has_from : Bool) (scope : Scope) (here : Surroundings) 
     (grouped : group_count here.scopes ≡ n) (arguments : ColumnsRead c (in_argument here) depth below (length below)) where
   pub aggregates-read : (place out first : ℕ) (aggregates : List Aggr) → Fitting below place aggregates → {trees : List SelectItem}
       → AreItems (named_from (marks out) first (writing.aggregates_from (marks depth) (place + 1) aggregates)) trees
-      → GroupedList has_from scope here (map (item_of c) trees) (numbered_names out first (kinds_of_aggrs aggregates)) (kinds_of_aggrs aggregates)
-      (λ b. columns_from (n + b) (kinds_of_aggrs aggregates)) (printing.aggregates_from place aggregates)
+      → GroupedList has_from scope here (map (item_of c) trees) (numbered_names out first (aggregate_kinds aggregates)) (aggregate_kinds aggregates)
+      (λ b. columns_from (n + b) (aggregate_kinds aggregates)) (printing.aggregates_from place aggregates)
   aggregates-read place out first [] fits no_item_trees = no_groups-read c has_from scope here
   aggregates-read place out first (aggregate ∷ aggregates) fits (an_item_tree {item = item} {items = trees} d ds) =
       let next : first + 1 ≡ suc first = omega arith in
       let later : place + 1 ≡ suc place = omega arith in
       let on : (b : ℕ) → n + (b + 1) ≡ suc (n + b) = λ b. omega arith in
-      let more = kinds_of_aggrs aggregates in
+      let more = aggregate_kinds aggregates in
       let read = arguments place fits.0.0 (get-below below place fits.0.0 fits.0.1) fits.0.1 in
       let rest = aggregates-read (suc place) out (suc first) aggregates fits.1
       (subst (λ m. AreItems (named_from (marks out) (suc first) (writing.aggregates_from (marks depth) (m + 1) aggregates)) trees) later
@@ -242,15 +242,15 @@ module _ (c : Contents) (has_from : Bool) (scope : Scope) (here : Surroundings) 
     pub groups-read : (place out first : ℕ) (all : List Kind) (aggregates : List Aggr) → place + length all ≡ n
         → ((i : ℕ) (kind : Kind) → slice_get all i ≡ Some kind → slice_get below (place + i) ≡ Some kind) → Fitting below n aggregates → {trees : List SelectItem}
         → AreItems (named_from (marks out) first (named_columns (marks depth) (place + 1) (length all) ++ writing.aggregates_from (marks depth) (n + 1) aggregates)) trees
-        → GroupedList has_from scope here (map (item_of c) trees) (numbered_names out first (all ++ kinds_of_aggrs aggregates)) (all ++ kinds_of_aggrs aggregates)
-        (λ b. columns_from place all ++ columns_from (n + b) (kinds_of_aggrs aggregates)) (printing.aggregates_from n aggregates)
+        → GroupedList has_from scope here (map (item_of c) trees) (numbered_names out first (all ++ aggregate_kinds aggregates)) (all ++ aggregate_kinds aggregates)
+        (λ b. columns_from place all ++ columns_from (n + b) (aggregate_kinds aggregates)) (printing.aggregates_from n aggregates)
     groups-read place out first [] aggregates full kinds_are fits d = aggregates-read n out first aggregates fits d
     groups-read place out first (kind ∷ all) aggregates full kinds_are fits (an_item_tree {item = item} {items = trees} d ds) =
         let next : first + 1 ≡ suc first = omega arith in
         let later : place + 1 ≡ suc place = omega arith in
         let none : (b : ℕ) → b + 0 ≡ b = λ b. omega arith in
         let at_place : place + 0 ≡ place = omega arith in
-        let more = kinds_of_aggrs aggregates in
+        let more = aggregate_kinds aggregates in
         let forms : ℕ → List ExprForm = λ number. named_columns (marks depth) number (length all) ++ writing.aggregates_from (marks depth) (n + 1) aggregates in
         let is : slice_get below place ≡ Some kind = sym (ap (slice_get below) at_place) ∙ kinds_are 0 kind refl in
         let rest = groups-read (suc place) out (suc first) all aggregates (omega (arith, full))

@@ -1,9 +1,10 @@
 -- What stands below groups as it is read: the grouped columns, then the arguments.
 use Rattle.std.proofs.Common.{◌≡◌, ℕ, suc, ◌+◌, Bool, false, List, [], ◌∷◌, ◌++◌, length, map, Option, Some, None, refl, sym, subst, arith}
+use Rattle.perm_values.specs.Rows.{PlacesWithin}
 use Rattle.perm_values.specs.declared.kind.Kind.{Kind}
 use Rattle.perm_values.specs.declared.kind.Kind.TheVariants as kinds
-use Rattle.bag_algebra.specs.Kinds.{kind_in}
-use Rattle.bag_algebra.specs.WellFormed.{AggregatesForm, HasKind, PlacesIn, aggr_form}
+use Rattle.bag_algebra.specs.Kinds.{kind_in, item_kinds}
+use Rattle.bag_algebra.specs.WellFormed.{AggregatesForm, HasKind, aggr_form}
 use Rattle.bag_algebra.specs.declared.expr.Expr.{Expr}
 use Rattle.bag_algebra.specs.declared.expr.Item.{Item}
 use Rattle.bag_algebra.specs.declared.query.AggFn.{AggFn}
@@ -39,7 +40,6 @@ use Rattle.sql_printer.specs.cores.Queries.{numbered_names}
 use Rattle.sql_printer.proofs.cores.ReadAsked.{printed-anywhere}
 use Rattle.sql_printer.proofs.cores.ReadConditions.{sublinks-found}
 use Rattle.sql_printer.proofs.cores.ReadFroms.{listed_names}
-use Rattle.sql_printer.proofs.cores.ReadItems.{kinds_of_items}
 use Rattle.sql_printer.proofs.cores.ReadLists.{ListRead, item-read, no_items-read}
 use Rattle.sql_printer.proofs.cores.ReadSublinkForms.{none_taken}
 
@@ -59,13 +59,13 @@ module _ (c : Contents) (has_from : Bool) (scope : Scope) (here : Surroundings) 
   forms-append (form ∷ first) more (item ∷ items) others r s = (r.0, forms-append first more items others r.1 s)
 
   forms-read : (forms : List ExprForm) (items : List Item) → FormsRead forms items → (out first : ℕ) {trees : List SelectItem} → AreItems (named_from (marks out) first forms) trees
-      → ListRead has_from scope here (map (item_of c) trees) (numbered_names out first (kinds_of_items items)) (kinds_of_items items) (λ n. items) []
+      → ListRead has_from scope here (map (item_of c) trees) (numbered_names out first (item_kinds items)) (item_kinds items) (λ n. items) []
   forms-read [] [] r out first no_item_trees = no_items-read has_from scope here
   forms-read [] (item ∷ items) r out first d = absurd r
   forms-read (form ∷ forms) [] r out first d = absurd r
   forms-read (form ∷ forms) (item ∷ items) r out first (an_item_tree {items = trees} d ds) =
       let next : first + 1 ≡ suc first = omega arith in
-      item-read c has_from scope here trees (numbered_names out (suc first) (kinds_of_items items)) item.kind (kinds_of_items items) (λ n. item.expr) (λ n. items) [] [] 0 d
+      item-read c has_from scope here trees (numbered_names out (suc first) (item_kinds items)) item.kind (item_kinds items) (λ n. item.expr) (λ n. items) [] [] 0 d
       (λ tree e. (r.0 tree e).0) (λ tree e. (r.0 tree e).1)
       (forms-read forms items r.1 out (suc first) (subst (λ m. AreItems (named_from (marks out) m forms) trees) next ds)) refl
 
@@ -73,7 +73,7 @@ module _ (c : Contents) (has_from : Bool) (scope : Scope) (here : Surroundings) 
   pub listed-read : (forms : List ExprForm) (items : List Item) → FormsRead forms items → (out first : ℕ) {item : SelectItem} {trees : List SelectItem}
       → IsItem (listed (naming (marks out) first) one forms).first (listed (naming (marks out) first) one forms).name item
       → AreItems (listed (naming (marks out) first) one forms).more trees
-      → ListRead has_from scope here (map (item_of c) (item ∷ trees)) (listed_names out first (kinds_of_items items)) (shown_kinds (kinds_of_items items)) (λ n. or_unread unread_item items) []
+      → ListRead has_from scope here (map (item_of c) (item ∷ trees)) (listed_names out first (item_kinds items)) (shown_kinds (item_kinds items)) (λ n. or_unread unread_item items) []
   listed-read [] [] r out first d no_item_trees =
       item-read c has_from scope here [] [] kinds.Integer [] (λ n. integer 1) (λ n. []) [] [] 0 d (λ tree e. plain-tree c tt e) (λ tree e. integer-read c here 1 e)
       (no_items-read has_from scope here) refl
@@ -84,7 +84,7 @@ module _ (c : Contents) (has_from : Bool) (scope : Scope) (here : Surroundings) 
   -- ---- columns and arguments
 
   module _ (depth : ℕ) (own : List Kind) (front : ℕ) (outer : List (List Kind)) (unread : List ℕ) (finds : Finds (marks depth) (own ∷ outer) (front ∷ unread) here.scopes) (outside : here.argument ≡ false) where
-    pub grouped-read : (groups : List ℕ) → PlacesIn (length own) groups → FormsRead (writing.grouped_columns (marks depth) groups) (printing.grouped front own groups)
+    pub grouped-read : (groups : List ℕ) → PlacesWithin (length own) groups → FormsRead (writing.grouped_columns (marks depth) groups) (printing.grouped front own groups)
     grouped-read [] within = tt
     grouped-read (place ∷ groups) within = (
       λ tree d. (

@@ -7,10 +7,11 @@ use Rattle.std.specs.Fmt.{decimal}
 use Rattle.std.proofs.lemmas.Bool.Decides.{nat_tests}
 use Rattle.std.proofs.lemmas.List.{length-map}
 use Rattle.std.proofs.lemmas.List.FromFn.{length-range_with_len}
+use Rattle.perm_values.specs.Rows.{PlacesWithin}
 use Rattle.perm_values.specs.declared.kind.Kind.{Kind}
 use Rattle.perm_values.specs.declared.kind.Kind.TheVariants as kinds
-use Rattle.bag_algebra.specs.Kinds.{kind_in, kinds_in}
-use Rattle.bag_algebra.specs.WellFormed.{AggregatesForm, PlacesIn, aggr_form}
+use Rattle.bag_algebra.specs.Kinds.{kind_in, kinds_in, item_kinds, aggregate_kinds}
+use Rattle.bag_algebra.specs.WellFormed.{AggregatesForm, aggr_form}
 use Rattle.bag_algebra.specs.declared.expr.Expr.{Expr}
 use Rattle.bag_algebra.specs.declared.expr.Item.{Item}
 use Rattle.bag_algebra.specs.declared.query.AggFn.{AggFn}
@@ -51,12 +52,10 @@ use Rattle.sql_printer.specs.expressions.Scopes.{Few, ScopesAre, marks}
 use Rattle.sql_printer.proofs.groups.GroupedCores.{grouped_core-read, grouped_scope, opened-groups}
 use Rattle.sql_printer.proofs.expressions.KindsOf.{kind-is}
 use Rattle.sql_printer.proofs.groups.ReadAggregates.{ColumnsRead, FitsArgument, Fitting, GroupedList, aggregates-read, behind_groups, counts, folds, grouped_item-read, groups-read, named_columns, no_groups-read, rows-read}
-use Rattle.sql_printer.specs.groups.Groups.{kinds_of_aggrs}
 use Rattle.sql_printer.proofs.groups.ReadArguments.{arguments-read, forms-append, grouped-read, listed-read}
 use Rattle.sql_printer.proofs.cores.ReadBlocks.{BlockRead, select-read}
 use Rattle.sql_printer.specs.cores.Queries.{QueryRead}
 use Rattle.sql_printer.proofs.cores.ReadFroms.{item_of_query, listed_names, scope-over, subquery-read}
-use Rattle.sql_printer.proofs.cores.ReadItems.{kinds_of_items}
 use Rattle.sql_printer.proofs.expressions.ReadLeaves.{local-read}
 use Rattle.sql_printer.proofs.cores.ReadLists.{item_at, part-is}
 use Rattle.sql_printer.proofs.cores.ReadQueries.{CoreRead, alone-read}
@@ -73,21 +72,21 @@ item_over depth below = item_of_query source_prefix (listed_names (suc depth) 1 
 
 module _ (c : Contents) (depth : ℕ) (scopes : List (List Kind)) (unread : List ℕ) (above : List Scope) (own : List Kind) (front : ℕ)
     (outer : ScopesAre depth scopes unread above) (chain : Chain) (test : ConditionForm) (q : Query) (block : BlockRead c (suc depth) above own front chain test q)
-    (groups : List ℕ) (aggregates : List Aggr) (within : PlacesIn (length own) groups) (formed : AggregatesForm (own ∷ scopes) aggregates)
+    (groups : List ℕ) (aggregates : List Aggr) (within : PlacesWithin (length own) groups) (formed : AggregatesForm (own ∷ scopes) aggregates)
     (writable : WritableAggregates aggregates) where
   abbrev items : List Item
   items = items_below own front scopes unread groups aggregates
 
   core_below-read : (tree : Core)
       → IsCore (selected false (listed (own_naming (marks (suc depth))) one (writing.grouped_columns (marks (suc depth)) groups ++ writing.arguments (marks (suc depth)) aggregates)) (writing.sources chain) test []) tree
-      → CoreRead c (in_from above) (listed_names (suc depth) 1 (kinds_of_items items)) (shown_kinds (kinds_of_items items)) (Project q (or_unread unread_item items) []) tree
+      → CoreRead c (in_from above) (listed_names (suc depth) 1 (item_kinds items)) (shown_kinds (item_kinds items)) (Project q (or_unread unread_item items) []) tree
   core_below-read tree d =
       let scope = scope_of block.items in
       let here = in_clause scope above true in
       let found = finds (suc depth) (own ∷ scopes) (front ∷ unread) (scope ∷ above) (block.scope, outer) in
       let forms = writing.grouped_columns (marks (suc depth)) groups ++ writing.arguments (marks (suc depth)) aggregates in
       select-read c (suc depth) (in_from above) own front chain test q block false (listed (own_naming (marks (suc depth))) one forms)
-      (listed_names (suc depth) 1 (kinds_of_items items)) (shown_kinds (kinds_of_items items)) (or_unread unread_item items) []
+      (listed_names (suc depth) 1 (item_kinds items)) (shown_kinds (item_kinds items)) (or_unread unread_item items) []
       (λ has item more e es. record {
         made = λ n. or_unread unread_item items;
         read = listed-read c has scope here forms items
@@ -99,8 +98,8 @@ module _ (c : Contents) (depth : ℕ) (scopes : List (List Kind)) (unread : List
       }) tree d
 
   pub below-read : (tree : QueryTree) → IsQuery (below_groups (marks (suc depth)) groups aggregates chain test) tree
-      → QueryRead ((query_of c tree).means (in_from above)) (listed_names (suc depth) 1 (kinds_of_items items)) (shown_kinds (kinds_of_items items)) (Project q (or_unread unread_item items) [])
-  below-read tree d = alone-read c (in_from above) _ (listed_names (suc depth) 1 (kinds_of_items items)) (shown_kinds (kinds_of_items items)) (Project q (or_unread unread_item items) []) core_below-read tree d
+      → QueryRead ((query_of c tree).means (in_from above)) (listed_names (suc depth) 1 (item_kinds items)) (shown_kinds (item_kinds items)) (Project q (or_unread unread_item items) [])
+  below-read tree d = alone-read c (in_from above) _ (listed_names (suc depth) 1 (item_kinds items)) (shown_kinds (item_kinds items)) (Project q (or_unread unread_item items) []) core_below-read tree d
 
 -- ---- its columns
 
@@ -125,7 +124,7 @@ module _ (scopes : List (List Kind)) (unread : List ℕ) where
   fits_argument agg.Max (Some part) kind form = (kind-is scopes part kind form.0, form.1)
 
   all-fitting : (below : List Kind) (place : ℕ) (aggregates : List Aggr) → AggregatesForm scopes aggregates
-      → ((i : ℕ) (kind : Kind) → slice_get (kinds_of_items (printing.arguments scopes unread aggregates)) i ≡ Some kind → slice_get below (place + i) ≡ Some kind)
+      → ((i : ℕ) (kind : Kind) → slice_get (item_kinds (printing.arguments scopes unread aggregates)) i ≡ Some kind → slice_get below (place + i) ≡ Some kind)
       → Fitting below place aggregates
   all-fitting below place [] form there = tt
   all-fitting below place (aggregate ∷ aggregates) form there =
@@ -243,9 +242,9 @@ module _ (c : Contents) (has_from : Bool) (depth : ℕ) (outer : List Scope) (be
       → ((i : ℕ) (kind : Kind) → slice_get (kinds_in own groups) i ≡ Some kind → slice_get below (0 + i) ≡ Some kind) → Fitting below (length groups) aggregates
       → (out first : ℕ) {item : SelectItem} {trees : List SelectItem} → IsItem (list_of out first groups aggregates).first (list_of out first groups aggregates).name item
       → AreItems (list_of out first groups aggregates).more trees
-      → WholeList (length groups) (map (item_of c) (item ∷ trees)) (listed_names out first (kinds_in own groups ++ kinds_of_aggrs aggregates))
-      (shown_kinds (kinds_in own groups ++ kinds_of_aggrs aggregates))
-      (or_unread (column 0 kinds.Integer) (columns_from 0 (kinds_in own groups ++ kinds_of_aggrs aggregates))) (or_counted groups (printing.aggregates_from (length groups) aggregates))
+      → WholeList (length groups) (map (item_of c) (item ∷ trees)) (listed_names out first (kinds_in own groups ++ aggregate_kinds aggregates))
+      (shown_kinds (kinds_in own groups ++ aggregate_kinds aggregates))
+      (or_unread (column 0 kinds.Integer) (columns_from 0 (kinds_in own groups ++ aggregate_kinds aggregates))) (or_counted groups (printing.aggregates_from (length groups) aggregates))
   whole-list own [] [] enough kinds_are fits out first d no_item_trees = record {
     made = λ b. item_at kinds.Integer (behind_groups c (grouped_here 0) refl b) ∷ [];
     list = grouped_item-read c has_from (over_grouped depth below 0) (grouped_here 0) [] [] kinds.Integer [] (behind_groups c (grouped_here 0) refl) (λ b. []) (counted ∷ []) [] 1 d
@@ -253,7 +252,7 @@ module _ (c : Contents) (has_from : Bool) (depth : ℕ) (outer : List Scope) (be
     first = refl;
   }
   whole-list own [] (aggregate ∷ aggregates) enough kinds_are fits out first d ds = record {
-    made = λ b. columns_from (0 + b) (kinds_of_aggrs (aggregate ∷ aggregates));
+    made = λ b. columns_from (0 + b) (aggregate_kinds (aggregate ∷ aggregates));
     list = aggregates-read c has_from (over_grouped depth below 0) (grouped_here 0) refl (suc depth) below 0 refl (arguments-found c depth outer below bound 0 enough)
         0 out first (aggregate ∷ aggregates) fits (an_item_tree d ds);
     first = refl;
@@ -264,12 +263,12 @@ module _ (c : Contents) (has_from : Bool) (depth : ℕ) (outer : List Scope) (be
       let long : length all ≡ n = length-map (group ∷ groups) (kind_in own) in
       let none : n + 0 ≡ 0 + length all = omega (arith, long) in
       record {
-        made = λ b. columns_from 0 all ++ columns_from (n + b) (kinds_of_aggrs aggregates);
+        made = λ b. columns_from 0 all ++ columns_from (n + b) (aggregate_kinds aggregates);
         list = groups-read c has_from (over_grouped depth below n) (grouped_here n) refl (suc depth) below n (length-range_with_len 0 n) (arguments-found c depth outer below bound n enough)
             (columns-found c depth outer below bound n enough) 0 out first all aggregates (omega (arith, long)) kinds_are fits
             (subst (λ m. AreItems (named_from (marks out) first (named_columns (marks (suc depth)) 1 m ++ writing.aggregates_from (marks (suc depth)) (n + 1) aggregates)) (item ∷ trees)) (sym long)
             (an_item_tree d ds));
-        first = ap (λ m. columns_from 0 all ++ columns_from m (kinds_of_aggrs aggregates)) none ∙ columns-append 0 all (kinds_of_aggrs aggregates);
+        first = ap (λ m. columns_from 0 all ++ columns_from m (aggregate_kinds aggregates)) none ∙ columns-append 0 all (aggregate_kinds aggregates);
       }
 
   -- it has groups
@@ -298,7 +297,7 @@ module _ (c : Contents) (has_from : Bool) (depth : ℕ) (outer : List Scope) (be
 -- ---- the whole
 
 long-below : (own : List Kind) (front : ℕ) (scopes : List (List Kind)) (unread groups : List ℕ) (aggregates : List Aggr)
-    → length (kinds_of_items (items_below own front scopes unread groups aggregates)) ≡ length groups + length aggregates
+    → length (item_kinds (items_below own front scopes unread groups aggregates)) ≡ length groups + length aggregates
 long-below own front scopes unread [] [] = refl
 long-below own front scopes unread [] (aggregate ∷ aggregates) =
     let on : suc (0 + length aggregates) ≡ 0 + suc (length aggregates) = omega arith in ap suc (long-below own front scopes unread [] aggregates) ∙ on
@@ -307,41 +306,41 @@ long-below own front scopes unread (place ∷ groups) aggregates =
     ap suc (long-below own front scopes unread groups aggregates) ∙ on
 
 kinds-below : (own : List Kind) (front : ℕ) (scopes : List (List Kind)) (unread groups : List ℕ) (aggregates : List Aggr)
-    → kinds_of_items (items_below own front scopes unread groups aggregates) ≡ kinds_in own groups ++ kinds_of_items (printing.arguments (own ∷ scopes) (front ∷ unread) aggregates)
+    → item_kinds (items_below own front scopes unread groups aggregates) ≡ kinds_in own groups ++ item_kinds (printing.arguments (own ∷ scopes) (front ∷ unread) aggregates)
 kinds-below own front scopes unread [] aggregates = refl
 kinds-below own front scopes unread (place ∷ groups) aggregates = ap (λ more. kind_in own place ∷ more) (kinds-below own front scopes unread groups aggregates)
 
 pub in_groups-read : (c : Contents) (depth : ℕ) (outer : List (List Kind)) (unread : List ℕ) (around : Around) (own : List Kind) (front : ℕ) → ScopesAre depth outer unread around.outer
-    → (chain : Chain) (test : ConditionForm) (q : Query) → BlockRead c (suc depth) around.outer own front chain test q → (groups : List ℕ) (aggregates : List Aggr) → PlacesIn (length own) groups
+    → (chain : Chain) (test : ConditionForm) (q : Query) → BlockRead c (suc depth) around.outer own front chain test q → (groups : List ℕ) (aggregates : List Aggr) → PlacesWithin (length own) groups
     → AggregatesForm (own ∷ outer) aggregates → WritableAggregates aggregates → 1 + (length groups + length aggregates) < 2 ^ 64 → (out first : ℕ) (tree : Core)
     → IsCore (writing.in_groups (marks (suc depth)) (naming (marks out) first) groups aggregates chain test) tree
-    → CoreRead c around (listed_names out first (kinds_in own groups ++ kinds_of_aggrs aggregates)) (shown_kinds (kinds_in own groups ++ kinds_of_aggrs aggregates))
+    → CoreRead c around (listed_names out first (kinds_in own groups ++ aggregate_kinds aggregates)) (shown_kinds (kinds_in own groups ++ aggregate_kinds aggregates))
     (printing.in_groups (own ∷ outer) (front ∷ unread) front groups aggregates own q) tree
 in_groups-read c depth outer unread around own front s chain test q block groups aggregates within formed writable small out first tree d =
     let o = opened-groups c d in
     let has = has_some (map (from_of c) o.sources) in
     let items = items_below own front outer unread groups aggregates in
-    let all = kinds_of_items items in
+    let all = item_kinds items in
     let inner = Project q (or_unread unread_item items) [] in
     let long = long-below own front outer unread groups aggregates in
     let bound : Few all = omega (arith, long, small) in
     let enough : length groups ≤ length all = omega (arith, long) in
     let split = kinds-below own front outer unread groups aggregates in
-    let given = kinds_in own groups ++ kinds_of_aggrs aggregates in
+    let given = kinds_in own groups ++ aggregate_kinds aggregates in
     let numbered = or_counted groups (printing.aggregates_from (length groups) aggregates) in
     let as_wide : length (kinds_in own groups) ≡ length groups = length-map groups (kind_in own) in
     let from = subquery-read c around.outer (listed_names (suc depth) 1 all) (shown_kinds all) inner o.from
     (below-read c depth outer unread around.outer own front s chain test q block groups aggregates within formed writable) in
     let fits = all-fitting (own ∷ outer) (front ∷ unread) all (length groups) aggregates formed
     (λ i kind e. ap (λ ks. slice_get ks (length groups + i)) split
-    ∙ ap (λ m. slice_get (kinds_in own groups ++ kinds_of_items (printing.arguments (own ∷ outer) (front ∷ unread) aggregates)) (m + i)) (sym as_wide)
-    ∙ get-behind (kinds_in own groups) (kinds_of_items (printing.arguments (own ∷ outer) (front ∷ unread) aggregates)) i ∙ e) in
+    ∙ ap (λ m. slice_get (kinds_in own groups ++ item_kinds (printing.arguments (own ∷ outer) (front ∷ unread) aggregates)) (m + i)) (sym as_wide)
+    ∙ get-behind (kinds_in own groups) (item_kinds (printing.arguments (own ∷ outer) (front ∷ unread) aggregates)) i ∙ e) in
     let refs = references-read c depth around.outer all bound (length groups) enough 0 (length groups) (omega (arith, enough)) o.grouped in
     let w = whole-list c has depth around.outer all bound own groups aggregates enough
     (λ i kind e. let none : 0 + i ≡ i = omega arith in
     ap (λ ks. slice_get ks (0 + i)) split
-    ∙ ap (slice_get (kinds_in own groups ++ kinds_of_items (printing.arguments (own ∷ outer) (front ∷ unread) aggregates))) none
-    ∙ slice_get-longer (kinds_in own groups) (kinds_of_items (printing.arguments (own ∷ outer) (front ∷ unread) aggregates)) i kind e) fits out first o.first o.rest in
+    ∙ ap (slice_get (kinds_in own groups ++ item_kinds (printing.arguments (own ∷ outer) (front ∷ unread) aggregates))) none
+    ∙ slice_get-longer (kinds_in own groups) (item_kinds (printing.arguments (own ∷ outer) (front ∷ unread) aggregates)) i kind e) fits out first o.first o.rest in
     let core = grouped_core-read around (from_all around.outer (map (from_of c) o.sources)) has (map (item_of c) (o.item ∷ o.items)) o.columns (item_over depth all) inner from
     (range_with_len 0 (length groups)) refs.0 refs.1 (now-grouped c has depth around.outer all bound groups aggregates out first o.grouped o.items o.first)
     (listed_names out first given) (shown_kinds given) w.made numbered w.list in (

@@ -1,5 +1,6 @@
 -- The numbers that an expression asks for: those of the sublinks that it uses, each below the number of sublinks.
 use Rattle.std.proofs.Common.{◌≡◌, ℕ, zero, suc, ◌+◌, ◌<◌, ◌≤◌, ◌≢◌, Bool, true, false, cond, ◌||◌, List, [], ◌∷◌, ◌++◌, length, Option, Some, None, refl, sym, ap, subst, ◌∙◌, true≢false, arith}
+use Rattle.std.proofs.Math.Bool.{or_comm}
 use Rattle.std.specs.Prelude.{nat_eq, slice_get}
 use Rattle.std.specs.List.{list_any, range_with_len}
 use Rattle.std.proofs.lemmas.Bool.Decides.{nat_tests}
@@ -33,12 +34,6 @@ below-append count (number ∷ numbers) more h k = (h.0, below-append count numb
 
 -- ---- what is used is asked for
 
-or_turned : (a b : Bool) → (a || b) ≡ (b || a)
-or_turned true true = refl
-or_turned true false = refl
-or_turned false true = refl
-or_turned false false = refl
-
 mutual
   pub uses-asked : (number : ℕ) (e : Expr) → uses number e ≡ asks (asked_in e) number
   uses-asked number (Col level place) = refl
@@ -46,7 +41,7 @@ mutual
   uses-asked number (OpOf op _ parts) = parts-asked number parts
   uses-asked number (ChainOf first _ steps) =
       (λ i. steps-asked number steps i || uses-asked number first i)
-      ∙ or_turned (asks (asked_in_steps steps) number) (asks (asked_in first) number)
+      ∙ or_comm (asks (asked_in_steps steps) number) (asks (asked_in first) number)
       ∙ sym (asks-append number (asked_in first) (asked_in_steps steps))
   uses-asked number (CaseOf _ arms otherwise) =
       (λ i. arms-asked number arms i || uses-asked number otherwise i) ∙ sym (asks-append number (asked_in_arms arms) (asked_in otherwise))

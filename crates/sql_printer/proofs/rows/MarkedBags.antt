@@ -1,11 +1,8 @@
 -- Bags whose rows are all changed so that rows are the same exactly where they were before: what is made of them is changed likewise.
 use Rattle.std.proofs.Common.{◌≡◌, Bool, true, false, cond, not, List, [], ◌∷◌, ◌++◌, map, filter, ◌||◌, refl, sym, ap, ◌∙◌}
+use Rattle.std.proofs.lemmas.List.{map-append}
 use Rattle.perm_values.specs.Rows.{same_row}
 use Rattle.bag_algebra.specs.Bags.{Row, Bag, member, others, once, without_first, in_both, beyond, union_of, intersect_of, except_of}
-
-pub map-append : {X Y : Type 0} (f : X → Y) (xs ys : List X) → map f (xs ++ ys) ≡ map f xs ++ map f ys
-map-append f [] ys = refl
-map-append f (x ∷ xs) ys = ap (λ more. f x ∷ more) (map-append f xs ys)
 
 pub map-cond : {X Y : Type 0} (f : X → Y) (b : Bool) (xs ys : List X) → cond b (map f xs) (map f ys) ≡ map f (cond b xs ys)
 map-cond f true xs ys = refl

@@ -5,7 +5,7 @@ use Rattle.std.specs.Int.{is_negative}
 use Rattle.std.specs.List.{range_with_len}
 use Rattle.std.proofs.lemmas.Bool.Decides.{nat_tests}
 use Rattle.null_logic.specs.Arithmetic.{fits_64}
-use Rattle.null_logic.specs.Comparison.{compare_values, in_list, is_null}
+use Rattle.null_logic.specs.Comparison.{compare_values, in_list}
 use Rattle.null_logic.specs.Logic.{truth_of, truth_not, truth_or, value_of}
 use Rattle.null_logic.specs.declared.arith.Arith.TheVariants.{Subtract}
 use Rattle.null_logic.specs.declared.compare.Compare.TheVariants.{Equal}
@@ -14,7 +14,7 @@ use Rattle.null_logic.specs.declared.run_fault.RunFault.TheVariants.{OutOfRange}
 use Rattle.null_logic.specs.declared.operator.Operator.TheVariants as op
 use Rattle.null_logic.specs.declared.truth.Truth.{Truth}
 use Rattle.null_logic.specs.declared.truth.Truth.TheVariants.{True, False, Unknown}
-use Rattle.perm_values.specs.Values.{same_value}
+use Rattle.perm_values.specs.Values.{same_value, is_null}
 use Rattle.perm_values.specs.declared.kind.Kind.{Kind}
 use Rattle.perm_values.specs.declared.kind.Kind.TheVariants as kinds
 use Rattle.perm_values.specs.declared.value.Value.{Value}
@@ -24,7 +24,7 @@ use Rattle.bag_algebra.specs.Children.{part_values, step_of, arms_value}
 use Rattle.bag_algebra.specs.Expressions.{value, values, step_values, arm_value, Step, operate, chain, has_truth, chosen_arm, coalesce}
 use Rattle.bag_algebra.specs.Outcome.{Outcome, Good, Bad, and_then, mapped, both, both_then, each, of_result}
 use Rattle.bag_algebra.specs.WellFormed.{HasKind, PartsHave, StepsHave, ArmsHave}
-use Rattle.bag_algebra.specs.built.Openings.{value-Op, value-Chain, value-Case, value-IsNull, value-IsTruth, value-Same}
+use Rattle.bag_algebra.specs.built.Openings.{value-Op, value-Chain, value-Case, value-IsNull, value-IsTruth, value-Same, both-mapped}
 use Rattle.bag_algebra.specs.built.Patterns.{OpOf, ChainOf, CaseOf, IsNullOf, IsTruthOf, SameOf}
 use Rattle.bag_algebra.specs.declared.expr.Expr.{Expr, Row_of-Expr, Row_of-Arm, Row_of-ChainStep, more_of-Expr, end_of-Expr, more_of-Arm, end_of-Arm, more_of-ChainStep, end_of-ChainStep}
 use Rattle.bag_algebra.specs.declared.expr.Expr.TheVariants.{Col, Lit, Op, Sub, IsNull}
@@ -66,12 +66,6 @@ unknown-value (Integer number) = refl
 unknown-value (Text spelled) = refl
 unknown-value (Boolean true) = refl
 unknown-value (Boolean false) = refl
-
-both-mapped : {X Y Z W : Type 0} (f : Y → Z → W) (g : X → Y) (a : Outcome X) (b : Outcome Z) → both (λ x z. f (g x) z) a b ≡ both f (mapped g a) b
-both-mapped f g (Good x) (Good z) = refl
-both-mapped f g (Good x) (Bad h) = refl
-both-mapped f g (Bad k) (Good z) = refl
-both-mapped f g (Bad k) (Bad h) = refl
 
 module _ (u : Row) (env : List Row) (answers : List Value) where
   -- a comparison in the place of IN

@@ -2,7 +2,7 @@
 use Rattle.std.proofs.Common.{◌≡◌, ℕ, zero, suc, ◌+◌, List, [], ◌∷◌, ◌++◌, length, length-append, map, Option, Some, None, pos, refl, sym, ap, subst, ◌∙◌, arith}
 use Rattle.std.proofs.lemmas.List.{length-map}
 use Rattle.std.specs.List.{range_with_len}
-use Rattle.perm_values.specs.Rows.{picked, same_row, value_at}
+use Rattle.perm_values.specs.Rows.{picked, same_row, value_at, PlacesWithin}
 use Rattle.perm_values.specs.declared.kind.Kind.{Kind}
 use Rattle.perm_values.specs.declared.kind.Kind.TheVariants as kinds
 use Rattle.perm_values.specs.declared.value.Value.{Value}
@@ -13,7 +13,7 @@ use Rattle.bag_algebra.specs.Kinds.{kind_in, kinds_in}
 use Rattle.bag_algebra.specs.Meaning.{arguments_on, optional_value}
 use Rattle.bag_algebra.specs.Means.{aggregated, aggregates_of, class_keys, class_of, class_row, good_row, grouped as in_classes}
 use Rattle.bag_algebra.specs.Outcome.{Outcome, Good, Bad, and_then, mapped, both, each}
-use Rattle.bag_algebra.specs.WellFormed.{AggregatesForm, HasKind, PlacesIn, aggr_form}
+use Rattle.bag_algebra.specs.WellFormed.{AggregatesForm, HasKind, aggr_form}
 use Rattle.bag_algebra.specs.declared.expr.Expr.{Expr}
 use Rattle.bag_algebra.specs.declared.query.AggFn.{AggFn}
 use Rattle.bag_algebra.specs.declared.query.AggFn.TheVariants as agg
@@ -113,7 +113,7 @@ module _ (scopes : List (List Kind)) (unread : List ℕ) (u v : Row) (env other 
 
   -- behind the columns by which rows are grouped
   below-alike : (below : List Kind) (before : ℕ) → Faces below before u v → (aggregates : List Aggr) → AggregatesForm scopes aggregates → WritableAggregates aggregates
-      → (groups : List ℕ) → PlacesIn (length below) groups
+      → (groups : List ℕ) → PlacesWithin (length below) groups
       → AlikeOutcomes (Lower groups aggregates u) (arguments_on aggregates env u)
       (items_values other (grouped before below groups ++ arguments scopes unread aggregates) v)
   below-alike below before s aggregates form w [] within =
@@ -349,7 +349,7 @@ and_then-twice (Good x) f g = refl
 and_then-twice (Bad h) f g = refl
 
 module _ (below : List Kind) (before : ℕ) (outer : List (List Kind)) (unread : List ℕ) (env other : List Row) (carried : Carries outer unread env other) where
-  classes_over-alike : (groups : List ℕ) (aggregates : List Aggr) → PlacesIn (length below) groups → AggregatesForm (below ∷ outer) aggregates
+  classes_over-alike : (groups : List ℕ) (aggregates : List Aggr) → PlacesWithin (length below) groups → AggregatesForm (below ∷ outer) aggregates
       → WritableAggregates aggregates → (o p : Outcome Bag) → AlikeOutcomes (Along (Faces below before)) o p
       → AlikeOutcomes (Along (Faces (kinds_in below groups ++ map (λ (aggregate : Aggr). aggregate.kind) aggregates) 0))
       (and_then o (in_classes groups (map (λ (aggregate : Aggr). aggregate.function) aggregates) (arguments_on aggregates env)))
@@ -401,7 +401,7 @@ module _ (below : List Kind) (before : ℕ) (outer : List (List Kind)) (unread :
   none-alike (Bad h) (Good vs) s = absurd s
   none-alike (Bad h) (Bad g) s = s
 
-  pub groups-alike : (groups : List ℕ) (aggregates : List Aggr) → PlacesIn (length below) groups → AggregatesForm (below ∷ outer) aggregates
+  pub groups-alike : (groups : List ℕ) (aggregates : List Aggr) → PlacesWithin (length below) groups → AggregatesForm (below ∷ outer) aggregates
       → WritableAggregates aggregates → (o p : Outcome Bag) → AlikeOutcomes (Along (Faces below before)) o p
       → AlikeOutcomes (Along (Shown (kinds_in below groups ++ map (λ (aggregate : Aggr). aggregate.kind) aggregates)))
       (and_then o (in_classes groups (map (λ (aggregate : Aggr). aggregate.function) aggregates) (arguments_on aggregates env)))

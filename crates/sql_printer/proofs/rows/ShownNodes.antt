@@ -1,5 +1,5 @@
 -- Nodes over rows that are shown by others: filters and joins.
-use Rattle.std.proofs.Common.{◌≡◌, ℕ, zero, suc, ◌+◌, ◌-◌, ◌<◌, ◌≤◌, Bool, true, false, cond, not, nat_lt, ltb-true, ltb-false, List, [], ◌∷◌, ◌++◌, length, length-append, map, refl, sym, ap, subst, ◌∙◌, arith}
+use Rattle.std.proofs.Common.{◌≡◌, ℕ, suc, ◌+◌, ◌-◌, ◌<◌, ◌≤◌, Bool, true, false, cond, not, nat_lt, ltb-true, ltb-false, List, [], ◌∷◌, ◌++◌, length, length-append, map, refl, sym, ap, subst, ◌∙◌, arith}
 use Rattle.std.proofs.lemmas.List.{get_or_append_left}
 use Rattle.std.specs.List.{list_any}
 use Rattle.perm_values.specs.Rows.{value_at}
@@ -10,6 +10,8 @@ use Rattle.bag_algebra.specs.Bags.{Row, Bag, nulls}
 use Rattle.bag_algebra.specs.Means.{holds_of, kept, is_met, keeps_left, keeps_right, unmatched_left, unmatched_right, met_pairs, joined_rows, under}
 use Rattle.bag_algebra.specs.Outcome.{Outcome, Good, Bad, and_then, mapped, gather}
 use Rattle.bag_algebra.specs.declared.query.JoinKind.{JoinKind}
+use Rattle.query_laws.proofs.Joined.{length-nulls}
+use Rattle.query_laws.proofs.SpineItems.{nulls-null}
 use Rattle.sql_printer.proofs.rows.RelatedOutcomes.{Along, AlikeOutcomes, along-append, along-cond, along-map, any-along, filter-along, alike-mapped, alike-and_then, alike-gather}
 use Rattle.sql_printer.proofs.rows.ShownRows.{Shown, shown_width, Spans, Ends, shown-length}
 
@@ -37,24 +39,15 @@ module _ (R : Row → Row → Type 0) where
 
 -- ---- rows beside rows
 
-length-nulls : (n : ℕ) → length (nulls n) ≡ n
-length-nulls zero = refl
-length-nulls (suc n) = ap suc (length-nulls n)
-
 nulls-shown : (kinds : List Kind) → Shown kinds (nulls (length kinds)) (nulls (shown_width kinds))
 nulls-shown [] = (refl, refl)
 nulls-shown (kind ∷ kinds) = (refl, length-nulls (length (kind ∷ kinds)))
-
-value-nulls : (n place : ℕ) → value_at (nulls n) place ≡ Null
-value-nulls zero place = refl
-value-nulls (suc n) zero = refl
-value-nulls (suc n) (suc place) = value-nulls n place
 
 nulls-end : (kinds : List Kind) (start : ℕ) → Ends kinds start (nulls (length kinds)) (nulls (start + length kinds))
 nulls-end kinds start = record {
   faces = record {
     wide = length-nulls (length kinds);
-    there = λ place h. value-nulls (start + length kinds) (start + place) ∙ sym (value-nulls (length kinds) place);
+    there = λ place h. nulls-null (start + length kinds) (start + place) ∙ sym (nulls-null (length kinds) place);
   };
   count = length-nulls (start + length kinds);
 }

@@ -6,13 +6,12 @@ use Rattle.std.specs.Prelude.{nat_eq}
 use Rattle.std.specs.Ordering.{is_gt, ordering_reverse, ordering_then}
 use Rattle.std.specs.declared.cmp.Ordering.{Ordering}
 use Rattle.std.specs.declared.cmp.Ordering.TheVariants.{Less, Equal, Greater}
-use Rattle.perm_values.specs.Rows.{key_cmp, printed_cmp, row_cmp, same_row, value_at}
+use Rattle.perm_values.specs.Rows.{key_cmp, printed_cmp, row_cmp, same_row, value_at, KeysWithin}
 use Rattle.perm_values.specs.Values.{value_cmp}
 use Rattle.perm_values.specs.declared.key.Key.{Key}
 use Rattle.perm_values.specs.declared.kind.Kind.{Kind}
 use Rattle.bag_algebra.specs.Bags.{Row, Bag, member, once, without_first, in_both, beyond, union_of, intersect_of, except_of, placed, sorted}
 use Rattle.bag_algebra.specs.Outcome.{Outcome, Good, Bad, mapped, both}
-use Rattle.bag_algebra.specs.WellFormed.{KeysIn}
 use Rattle.query_texts.specs.clauses.Keys.{all_keys, at_place, is_key, other_keys}
 use Rattle.sql_printer.proofs.rows.MarkedBags.{once-marked, union-marked, intersect-marked, except-marked}
 use Rattle.sql_printer.proofs.rows.RelatedOutcomes.{Along, AlikeOutcomes}
@@ -218,11 +217,11 @@ module _ (u v : Row) where
       ap (λ n. printed_cmp (other_keys keys (range_with_len 0 n)) u v) (sym h)
       ∙ columns-cmp keys ties u v 0 (h ∙ sym k) (own u) (own v) ∙ then-same (row_cmp u v))
 
-no_keys : (keys : List Key) → KeysIn 0 keys → keys ≡ []
+no_keys : (keys : List Key) → KeysWithin 0 keys → keys ≡ []
 no_keys [] within = refl
 no_keys (key ∷ keys) within = let none : key.place < 0 = within 0 key (omega arith) in absurd (omega (arith, none))
 
-marked-cmp : (kinds : List Kind) (keys : List Key) → KeysIn (length kinds) keys → (u v : Row) → length u ≡ length kinds → length v ≡ length kinds
+marked-cmp : (kinds : List Kind) (keys : List Key) → KeysWithin (length kinds) keys → (u v : Row) → length u ≡ length kinds → length v ≡ length kinds
     → printed_cmp (all_keys (length kinds) keys) (mark kinds u) (mark kinds v) ≡ printed_cmp keys u v
 marked-cmp [] keys within u v h k =
     ap (λ ks. printed_cmp (all_keys 0 ks) (mark [] u) (mark [] v)) (no_keys keys within) ∙ ap (λ ks. printed_cmp ks u v) (sym (no_keys keys within))
@@ -252,7 +251,7 @@ take-map f zero us = refl
 take-map f (suc count) [] = refl
 take-map f (suc count) (u ∷ us) = ap (λ vs. f u ∷ vs) (take-map f count us)
 
-pub limit-alike : (kinds : List Kind) (keys : List Key) (count : ℕ) → KeysIn (length kinds) keys → (o : Outcome Bag) → WideOutcome (length kinds) o
+pub limit-alike : (kinds : List Kind) (keys : List Key) (count : ℕ) → KeysWithin (length kinds) keys → (o : Outcome Bag) → WideOutcome (length kinds) o
     → AlikeOutcomes (Along (Shown kinds)) (mapped (λ bag. take count (sorted (printed_cmp keys) bag)) o)
     (mapped (λ bag. take count (sorted (printed_cmp (all_keys (length kinds) keys)) bag)) (mapped (map (mark kinds)) o))
 limit-alike kinds keys count within (Bad g) w = refl

@@ -8,8 +8,10 @@ use Rattle.null_logic.specs.declared.run_fault.RunFault.TheVariants.{DivideByZer
 use Rattle.perm_values.specs.Rows.{value_at}
 use Rattle.perm_values.specs.declared.value.Value.{Value}
 use Rattle.perm_values.specs.declared.value.Value.TheVariants.{Null}
+use Rattle.bag_algebra.specs.Means.{good_value}
 use Rattle.bag_algebra.specs.Outcome.{Faults, Outcome, Good, Bad, both, each, has, mapped}
 use Rattle.bag_algebra.proofs.Truths.{or_false, or_true}
+use Rattle.query_laws.proofs.Choice.{same_flag}
 use Rattle.sql_printer.specs.rows.Carried.{Answered}
 use Rattle.sql_printer.proofs.rows.AskedNumbers.{asks, Below}
 
@@ -25,11 +27,6 @@ abbrev pub looked_at : Answers → Outcome (List Value)
 looked_at os = each (λ o. o) os
 
 -- ---- tests of what is taken
-
-equal_tests : (a b : Bool) → (a ≡ true → b ≡ true) → (b ≡ true → a ≡ true) → a ≡ b
-equal_tests true b f g = sym (f refl)
-equal_tests false true f g = g refl
-equal_tests false false f g = refl
 
 module _ (test : Outcome Value → Bool) where
   any-at : (os : Answers) (number : ℕ) → number < length os → test (answer_at os number) ≡ true → list_any test os ≡ true
@@ -78,7 +75,7 @@ module _ (test : Outcome Value → Bool) where
 
     taken-any : (numbers : List ℕ) → Below (length os) numbers → ((number : ℕ) → number < length os → asks numbers number ≡ true)
         → list_any test (map (answer_at os) numbers) ≡ list_any test os
-    taken-any numbers below all = equal_tests (list_any test (map (answer_at os) numbers)) (list_any test os) (from-taken numbers below)
+    taken-any numbers below all = same_flag (list_any test (map (answer_at os) numbers)) (list_any test os) (from-taken numbers below)
         (λ e. let found = any-where os e in to-taken numbers found.0 (all found.0 found.1) found.2)
 
 -- ---- outcomes
@@ -90,10 +87,6 @@ is_bad (Bad f) = true
 abbrev meets : RunFault → Outcome Value → Bool
 meets fault (Good v) = false
 meets fault (Bad f) = has f fault
-
-abbrev good_of : Outcome Value → Value
-good_of (Good v) = v
-good_of (Bad f) = Null
 
 abbrev faults_in : Answers → Faults
 faults_in os = record {
@@ -122,19 +115,19 @@ bad-first false f os vs e = λ i. Bad (record {
   several = (sym (or_false f.several) ∙ ap (λ b. f.several || b) (sym (none_met SeveralRows os e))) i;
 })
 
-looked_at-is : (os : Answers) → looked_at os ≡ cond (list_any is_bad os) (Bad (faults_in os)) (Good (map good_of os))
+looked_at-is : (os : Answers) → looked_at os ≡ cond (list_any is_bad os) (Bad (faults_in os)) (Good (map good_value os))
 looked_at-is [] = refl
 looked_at-is (Good v ∷ os) =
-    ap (both (λ x xs. x ∷ xs) (Good v)) (looked_at-is os) ∙ good-first (list_any is_bad os) v (faults_in os) (map good_of os)
+    ap (both (λ x xs. x ∷ xs) (Good v)) (looked_at-is os) ∙ good-first (list_any is_bad os) v (faults_in os) (map good_value os)
 looked_at-is (Bad f ∷ os) =
-    ap (both (λ x xs. x ∷ xs) (Bad f)) (looked_at-is os) ∙ bad-first (list_any is_bad os) f os (map good_of os) refl
+    ap (both (λ x xs. x ∷ xs) (Bad f)) (looked_at-is os) ∙ bad-first (list_any is_bad os) f os (map good_value os) refl
 
-good-at : (os : Answers) (number : ℕ) → good_of (answer_at os number) ≡ value_at (map good_of os) number
+good-at : (os : Answers) (number : ℕ) → good_value (answer_at os number) ≡ value_at (map good_value os) number
 good-at [] number = refl
 good-at (o ∷ os) zero = refl
 good-at (o ∷ os) (suc number) = good-at os number
 
-goods-at : (os : Answers) (numbers : List ℕ) → map good_of (map (answer_at os) numbers) ≡ map (value_at (map good_of os)) numbers
+goods-at : (os : Answers) (numbers : List ℕ) → map good_value (map (answer_at os) numbers) ≡ map (value_at (map good_value os)) numbers
 goods-at os [] = refl
 goods-at os (number ∷ numbers) = λ i. good-at os number i ∷ goods-at os numbers i
 
@@ -156,7 +149,7 @@ taken-answers os numbers below all =
       several = taken-any (meets SeveralRows) os numbers below all i;
     })) (Good (goods-at os numbers i)))
     ∙ sym (ap (mapped (λ vs. map (value_at vs) numbers)) (looked_at-is os)
-    ∙ mapped-cond (λ vs. map (value_at vs) numbers) (list_any is_bad os) (faults_in os) (map good_of os))
+    ∙ mapped-cond (λ vs. map (value_at vs) numbers) (list_any is_bad os) (faults_in os) (map good_value os))
 
 -- ---- where they are found
 

@@ -2,9 +2,10 @@
 ghost use Rattle.std.specs.Prelude.{ℕ, List, []};
 ghost use Rattle.std.specs.List.{AllByRecursion};
 ghost use Rattle.std.specs.Str.{IsUtf8};
+ghost use Rattle.perm_values.specs.Rows.{KeysWithin};
 ghost use Rattle.perm_values.specs.declared.key.Key.{Key};
 ghost use Rattle.bag_algebra.specs.Kinds.{width_of};
-ghost use Rattle.bag_algebra.specs.WellFormed.{KeysIn, WellFormed};
+ghost use Rattle.bag_algebra.specs.WellFormed.{WellFormed};
 ghost use Rattle.bag_algebra.specs.declared.query.Query.{Query};
 ghost use Rattle.tree_texts.specs.plans.Plans.{tokens_of};
 ghost use Rattle.tree_texts.specs.Fits.{FitsQuery};
@@ -20,7 +21,7 @@ ghost use Rattle.sql_printer.specs.forms.Printable.{AreCharacters, Printable};
 pub fn a_printed_answer_can_be_written()
     ensures { (tables : List TableNames) (q : Query) (names : List (List ℕ)) (keys : List Key)
         → AllByRecursion AreCharacters tables → AllByRecursion IsUtf8 names → WellFormed [] q
-        → Printable q → KeysIn (width_of q) keys
+        → Printable q → KeysWithin (width_of q) keys
         → FitsQuery (shown_answer tables q names keys) }
 {}
 

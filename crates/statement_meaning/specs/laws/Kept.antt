@@ -3,7 +3,7 @@ use Rattle.std.specs.Prelude.{Bool, false, not, filter, Option}
 use Rattle.bag_algebra.specs.Bags.{Row, Bag}
 use Rattle.bag_algebra.specs.Outcome.{Outcome, Good, Bad}
 use Rattle.bag_algebra.specs.declared.expr.Expr.{Expr}
-use Rattle.statement_meaning.specs.Turns.{goes}
+use Rattle.delete_impact.specs.vanishing.Doomed.{doomed_on}
 
 abbrev pub is_certain : Outcome Bool → Bool
 is_certain (Good b) = b
@@ -11,4 +11,4 @@ is_certain (Bad faults) = false
 
 -- those of which the condition isn't true: it is false or unknown
 abbrev pub rows_left : Option Expr → Bag → Bag
-rows_left condition rows = filter (λ (row : Row). not (is_certain (goes condition row))) rows
+rows_left condition rows = filter (λ (row : Row). not (is_certain (doomed_on condition row))) rows

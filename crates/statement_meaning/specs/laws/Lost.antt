@@ -6,6 +6,7 @@ use Rattle.bag_algebra.specs.Outcome.{Faults, Bad, has}
 use Rattle.bag_algebra.specs.declared.expr.Expr.{Expr}
 use Rattle.bag_algebra.specs.declared.query.Answer.{Answer}
 use Rattle.bag_algebra.specs.declared.query.Query.{Query}
+use Rattle.delete_impact.specs.vanishing.Doomed.{doomed_on}
 use Rattle.delete_impact.specs.vanishing.Vanishing.{Vanishes}
 use Rattle.null_logic.specs.declared.run_fault.RunFault.{RunFault}
 use Rattle.perm_catalog.specs.Contents.{Contents}
@@ -13,7 +14,7 @@ use Rattle.query_laws.specs.Holding.{HoldsOnce}
 use Rattle.sql_tree.specs.declared.statement.Statement.{Statement}
 use Rattle.name_meaning.specs.Statements.{breaks, resolved}
 use Rattle.name_meaning.specs.declared.answer.Resolved.TheVariants as r
-use Rattle.statement_meaning.specs.Turns.{goes, reads}
+use Rattle.statement_meaning.specs.Turns.{reads}
 use Rattle.statement_meaning.specs.laws.Printed.{IsTextOf}
 
 -- the statement is an IMPACT that breaks no rule, limits included, and this is what it is resolved to
@@ -31,5 +32,5 @@ pub record ListsLost (answer : Answer) (id : ℕ) (condition : Option Expr) (db 
 -- a fault that the query meets; or, where the query reads the table, one that the condition meets on a row of the table
 pub data MeetsLost (query : Query) (id : ℕ) (condition : Option Expr) (db : Database) (fault : RunFault) : Type 0 where
   of_query : (faults : Faults) → meaning query db [] ≡ Bad faults → has faults fault ≡ true → MeetsLost query id condition db fault
-  of_condition : (row : Row) (faults : Faults) → reads id query ≡ true → IsTrue (member row (db id)) → goes condition row ≡ Bad faults →
+  of_condition : (row : Row) (faults : Faults) → reads id query ≡ true → IsTrue (member row (db id)) → doomed_on condition row ≡ Bad faults →
       has faults fault ≡ true → MeetsLost query id condition db fault

@@ -1,9 +1,10 @@
 -- When what a resolved statement adds to a catalog is sound, and that a statement keeps a catalog sound.
 use Rattle.std.specs.Prelude.{◌≡◌, ℕ, ⊤, List, [], ◌∷◌, length, Option, IfSome}
+use Rattle.perm_values.specs.Rows.{PlacesWithin}
 use Rattle.perm_values.specs.declared.kind.Kind.{Kind}
 use Rattle.bag_algebra.specs.Kinds.{kinds_of}
 use Rattle.bag_algebra.specs.TablesRead.{EachTable}
-use Rattle.bag_algebra.specs.WellFormed.{HasKind, PlacesIn, WellFormed}
+use Rattle.bag_algebra.specs.WellFormed.{HasKind, WellFormed}
 use Rattle.bag_algebra.specs.built.Patterns.{ProvOf}
 use Rattle.bag_algebra.specs.declared.expr.Expr.{Expr}
 use Rattle.bag_algebra.specs.declared.query.Query.{Query}
@@ -35,7 +36,7 @@ RowsHaveKinds (row ∷ rows) kinds = HaveKinds row kinds × RowsHaveKinds rows k
 pub record AsksAt (columns : List Column) (query : Query) (places : List ℕ) : Type 0 where
   pub input : Query
   pub asks : query ≡ ProvOf input
-  pub within : PlacesIn (length columns) places
+  pub within : PlacesWithin (length columns) places
 
 -- columns of a table, of the kinds of a query that reads no outer row and none but the catalog's tables; where places are
 -- given, it asks for provenance

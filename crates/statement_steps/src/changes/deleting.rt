@@ -3,9 +3,10 @@ ghost use Rattle.bag_algebra.specs.Expressions.{value};
 ghost use Rattle.bag_algebra.specs.Outcome.{each};
 ghost use Rattle.bag_algebra.specs.TableRows.{rows_in};
 ghost use Rattle.row_values.specs.Answers.{Gives};
+ghost use Rattle.delete_impact.specs.vanishing.Doomed.{doomed_on};
 ghost use Rattle.perm_catalog.specs.Changes.{table_named, rows_at};
 ghost use Rattle.statement_meaning.specs.Answers.{IsTurn};
-ghost use Rattle.statement_meaning.specs.Turns.{delete, drawing, goes, identity_of, rows_deleted};
+ghost use Rattle.statement_meaning.specs.Turns.{delete, drawing, identity_of, rows_deleted};
 
 use crate::changes::refusing::refused;
 use crate::changes::text::counting;
@@ -56,7 +57,7 @@ fn held_rows(tables: &Tables, id: u64) -> &[Row]
 
 /// Flags the rows that go.
 fn doomed(alloc: Global, rows: &[Row], condition: &Option<Expr>) -> Result<List<bool>, ExecError>
-    ensures { Gives (each (goes condition.now) rows.now) result }
+    ensures { Gives (each (doomed_on condition.now) rows.now) result }
 {
     let mut flags = List::with_room(alloc, rows.len())?;
     for row in rows {
@@ -67,7 +68,7 @@ fn doomed(alloc: Global, rows: &[Row], condition: &Option<Expr>) -> Result<List<
 
 /// Whether a row goes.
 fn goes(alloc: Global, row: &Row, condition: &Option<Expr>) -> Result<bool, ExecError>
-    ensures { Gives (goes condition.now row.now) result }
+    ensures { Gives (doomed_on condition.now row.now) result }
 {
     match condition {
         None => Ok(true),
@@ -77,7 +78,7 @@ fn goes(alloc: Global, row: &Row, condition: &Option<Expr>) -> Result<bool, Exec
 
 /// Whether the condition is true of a row.
 fn is_true(alloc: Global, row: &Row, condition: &Expr) -> Result<bool, ExecError>
-    ensures { Gives (goes (Some condition.now) row.now) result }
+    ensures { Gives (doomed_on (Some condition.now) row.now) result }
 {
     let value = value_on(alloc, row, condition)?;
     Ok(holds(&value))

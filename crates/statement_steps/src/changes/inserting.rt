@@ -1,5 +1,4 @@
-ghost use Rattle.std.specs.Prelude.{◌≡◌, [], IsSome};
-ghost use Rattle.bag_algebra.specs.Expressions.{value};
+ghost use Rattle.std.specs.Prelude.{IsSome};
 ghost use Rattle.bag_algebra.specs.Outcome.{each};
 ghost use Rattle.row_values.specs.Answers.{Gives};
 ghost use Rattle.perm_catalog.specs.Changes.{table_named};
@@ -7,10 +6,10 @@ ghost use Rattle.statement_meaning.specs.Answers.{IsTurn};
 ghost use Rattle.statement_meaning.specs.Turns.{insert, row_value};
 
 use crate::changes::adding::add_rows;
-use bag_algebra::{Env, Expr};
+use bag_algebra::Expr;
 use perm_catalog::Catalog;
-use perm_values::{Bytes, Chars, List, Row, Rows, Value};
-use row_values::{ExecError, eval};
+use perm_values::{Bytes, Chars, List, Row, Rows};
+use row_values::{ExecError, value_alone};
 use statement_meaning::StepRefusal;
 use std::alloc::Global;
 
@@ -49,16 +48,7 @@ fn row_value(alloc: Global, exprs: &[Expr]) -> Result<Row, ExecError>
 {
     let mut values = Row::with_room(alloc, exprs.len())?;
     for expr in exprs {
-        values.push(value(alloc, expr)?)?;
+        values.push(value_alone(alloc, expr)?)?;
     }
     Ok(values)
-}
-
-/// The value of an expression that sees no column.
-fn value(alloc: Global, expr: &Expr) -> Result<Value, ExecError>
-    ensures { Gives (value expr.now [] [] []) result }
-{
-    let nothing = Row::new(alloc);
-    let env = Env::new(alloc);
-    eval(alloc, expr, &nothing, &[], &env)
 }

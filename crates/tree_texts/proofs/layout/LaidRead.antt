@@ -3,6 +3,7 @@ use Rattle.std.proofs.Common.{◌≡◌, ◌<◌, ◌≤◌, ℕ, zero, suc, ◌
 use Rattle.std.specs.List.{list_all, AllByRecursion}
 use Rattle.std.specs.Str.{IsUtf8}
 use Rattle.std.proofs.Math.Seq.{take-append_seam, get_or-append_seam}
+use Rattle.std.proofs.lemmas.Bool.{and_parts}
 use Rattle.std.proofs.lemmas.Bool.Decides.{nat_tests}
 use Rattle.std.proofs.lemmas.List.{length-append, append-nil}
 use Rattle.std.proofs.lemmas.Str.{IsUtf8-nil, IsUtf8-append, IsUtf8-take}
@@ -10,7 +11,6 @@ use Rattle.sql_lexer.specs.declared.token.Token.{Token}
 use Rattle.sql_lexer.specs.Bytes.{is_blank, next_is}
 use Rattle.sql_lexer.specs.Lexes.{goes_on, Spells, IsToken, blank, token, LexesTo, nothing, piece, Lexes}
 use Rattle.sql_lexer.proofs.Ascii.{one_utf8}
-use Rattle.sql_lexer.proofs.Fronts.{and_parts}
 use Rattle.sql_lexer.proofs.Spans.{spanned}
 use Rattle.tree_texts.specs.Standing.{Span, Places, at_span, standing, CanStand}
 use Rattle.tree_texts.specs.Texts.{shown, shown_tokens}

@@ -1,5 +1,6 @@
 -- Where a token ends: at a blank, and at a symbol that is free.
-use Rattle.std.proofs.Common.{◌≡◌, ℕ, ℤ, Bool, true, false, ◌&&◌, ◌||◌, List, [], ◌∷◌, Some, refl, ap, arith}
+use Rattle.std.proofs.Common.{◌≡◌, ℕ, ℤ, Bool, true, false, ◌||◌, List, [], ◌∷◌, Some, refl, ap, arith}
+use Rattle.std.proofs.Math.Bool.{and-false}
 use Rattle.std.specs.Prelude.{nat_eq}
 use Rattle.std.proofs.lemmas.Bool.Decides.{nat_tests}
 use Rattle.sql_lexer.specs.declared.token.TokenKind.{TokenKind}
@@ -44,14 +45,10 @@ no_join : (b : ℕ) (blank : Bool) → is_blank b ≡ blank → (blank || is_fre
 no_join b true is e = (ap joins_word (blank_class b is), ap joins_number (blank_class b is))
 no_join b false is e = let class = single_class b (free_single b e) in (ap joins_word class, ap joins_number class)
 
-and_none : (a : Bool) → (a && false) ≡ false
-and_none true = refl
-and_none false = refl
-
 symbol_stops : (spelled : List ℕ) (b : ℕ) → held spelled ≡ Some spelled → is_apart b ≡ true → goes_on Symbol spelled b ≡ false
 symbol_stops [] b e is = absurd (cc)
 symbol_stops (c ∷ []) b e is =
-    rw (no_greater b is, no_equals b is, no_dash b is, and_none (nat_eq c 60), and_none (nat_eq c 33), and_none (nat_eq c 62), and_none (nat_eq c 45)) refl
+    rw (no_greater b is, no_equals b is, no_dash b is, and-false (nat_eq c 60), and-false (nat_eq c 33), and-false (nat_eq c 62), and-false (nat_eq c 45)) refl
 symbol_stops (c ∷ d ∷ []) b e is = refl
 symbol_stops (c ∷ d ∷ f ∷ more) b e is = absurd (cc)
 

@@ -3,6 +3,7 @@ use Rattle.std.proofs.Common.{◌≡◌, ℕ, ℤ, ◌+◌, ◌-◌, ⊎_elim, B
 use Rattle.std.specs.List.{list_all, AllByRecursion, slice_range}
 use Rattle.std.specs.Prelude.{codes}
 use Rattle.std.proofs.Math.Seq.{take-append_seam, drop-append_seam}
+use Rattle.std.proofs.lemmas.Bool.{and_from, and_parts}
 use Rattle.std.proofs.lemmas.List.{append-nil, drop-drop, length-append}
 use Rattle.sql_lexer.specs.declared.token.Token.{Token}
 use Rattle.sql_lexer.specs.declared.token.TokenKind.{TokenKind}
@@ -11,8 +12,6 @@ use Rattle.sql_lexer.specs.Bytes.{is_blank, next_is}
 use Rattle.sql_lexer.specs.Lexes.{goes_on, Lexes}
 use Rattle.sql_lexer.specs.Printing.{plain_spelled}
 use Rattle.sql_lexer.proofs.Ascii.{one_utf8}
-use Rattle.sql_lexer.proofs.Fronts.{and_parts}
-use Rattle.sql_lexer.proofs.Numbers.{and_true}
 use Rattle.sql_tree.specs.declared.grammar.sort.Sort.TheVariants.{Semicolon}
 use Rattle.tree_texts.specs.plans.Written.{token_for}
 use Rattle.tree_texts.specs.Standing.{Span, at_span, standing, CanStand}
@@ -29,7 +28,7 @@ further_in : (more : List ℕ) → list_all is_blank more ≡ true → list_all 
 further_in [] all = refl
 further_in (b ∷ more) all =
     let parts = and_parts (is_blank b) (list_all is_blank more) all in
-    and_true (is_blank b) (list_all is_blank (more ++ 32 ∷ 32 ∷ [])) parts.0 (further_in more parts.1)
+    and_from (is_blank b) (list_all is_blank (more ++ 32 ∷ 32 ∷ [])) parts.0 (further_in more parts.1)
 
 pub longer : (old now after : List ℕ) → AddsBlanks old now → after ≡ now ++ 32 ∷ 32 ∷ [] → AddsBlanks old after
 longer old now after adds joined = (
@@ -111,7 +110,7 @@ stops_at : (t : Token) (span : Span) (places : ℕ → Span) (tokens : List Toke
 stops_at t span places tokens [] rest can is laid =
     (refl, ⊎_elim (λ free. stops_free t span rest free) (λ free. stops_before t places tokens rest can free laid) is)
 stops_at t span places tokens (b ∷ gap) rest can is laid =
-    (and_true (is_blank b) (list_all is_blank gap) is.0 is.1, stops t.kind t.spelled t.number b can.0 (blank_apart b is.0))
+    (and_from (is_blank b) (list_all is_blank gap) is.0 is.1, stops t.kind t.spelled t.number b can.0 (blank_apart b is.0))
 
 semicolon_can : CanStand semicolon
 semicolon_can = ((refl, refl), one_utf8 59 (omega arith))

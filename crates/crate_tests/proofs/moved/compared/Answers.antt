@@ -2,9 +2,10 @@ use Rattle.std.proofs.Common.{◌≡◌, Some, [], ◌∷◌, sym, subst}
 use Rattle.bag_algebra.specs.Rewriting.{IsRewrite}
 use Rattle.bag_algebra.specs.declared.expr.Expr.TheVariants.{Col}
 use Rattle.bag_algebra.specs.declared.query.Sublink.{Sublink}
+use Rattle.perm_values.proofs.Results.{where_made}
 use Rattle.perm_values.proofs.Taken.{opened}
 use Rattle.query_laws.specs.Standing.{SubsStand}
-use Rattle.rewrite_driver.proofs.MadeQueries.{both_made, where_made}
+use Rattle.rewrite_driver.proofs.MadeQueries.{both_made}
 use Rattle.rewrite_move.specs.Moved.{SubsTraced}
 use Rattle.crate_tests.proofs.moved.compared.Goals as goal
 

@@ -1,4 +1,4 @@
-use Rattle.rewrite_driver.proofs.MadeQueries.{where_made}
+use Rattle.perm_values.proofs.Results.{where_made}
 use Rattle.crate_tests.proofs.moved.comparison.Goals as goal
 
 pub returns : goal.returns

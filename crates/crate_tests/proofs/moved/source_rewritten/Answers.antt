@@ -1,7 +1,7 @@
 use Rattle.bag_algebra.specs.Rewriting.{IsRewrite, Stands}
 use Rattle.bag_algebra.specs.declared.query.Query.TheVariants.{Base}
+use Rattle.perm_values.proofs.Results.{where_made}
 use Rattle.perm_values.proofs.Taken.{opened}
-use Rattle.rewrite_driver.proofs.MadeQueries.{where_made}
 use Rattle.crate_tests.proofs.moved.source_rewritten.Goals as goal
 
 pub returns : goal.returns

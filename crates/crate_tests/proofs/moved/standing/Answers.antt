@@ -4,10 +4,11 @@ use Rattle.bag_algebra.specs.declared.expr.Expr.TheVariants.{Col}
 use Rattle.bag_algebra.specs.declared.query.Query.{Query}
 use Rattle.bag_algebra.specs.declared.query.SubKind.{SubKind}
 use Rattle.bag_algebra.specs.declared.query.Sublink.{Sublink}
+use Rattle.perm_values.proofs.Results.{where_made}
 use Rattle.perm_values.proofs.Taken.{opened}
 use Rattle.query_laws.proofs.SameExpressions.{same-itself}
 use Rattle.query_laws.specs.Standing.{SubsStand}
-use Rattle.rewrite_driver.proofs.MadeQueries.{both_made, where_made}
+use Rattle.rewrite_driver.proofs.MadeQueries.{both_made}
 use Rattle.crate_tests.proofs.moved.standing.Goals as goal
 
 -- the first column, compared with the rows of the query

@@ -1,6 +1,6 @@
 use Rattle.std.specs.Bool.{IsTrue}
+use Rattle.perm_values.proofs.Results.{where_made}
 use Rattle.bag_algebra.specs.Rewriting.{is_plain}
-use Rattle.rewrite_driver.proofs.MadeQueries.{where_made}
 use Rattle.crate_tests.proofs.smaller.found.Goals as goal
 
 pub returns : goal.returns

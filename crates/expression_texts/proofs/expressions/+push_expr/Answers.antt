@@ -1,12 +1,13 @@
 use Rattle.std.proofs.Common.{◌∙◌, List, ◌++◌, length, map, refl, ap}
 use Rattle.std.specs.Prelude.{codes}
+use Rattle.perm_values.proofs.Results.{when-ok}
 use Rattle.bag_algebra.specs.declared.expr.Arm.{Arm}
 use Rattle.bag_algebra.specs.declared.expr.ChainStep.{ChainStep}
 use Rattle.bag_algebra.specs.declared.expr.Expr.{Expr}
 use Rattle.expression_texts.specs.ExpressionTexts.{expr_bytes, first_level, step_text, step_text_of, steps_of, steps_text, arm_text, arm_text_of, arms_of, arms_text}
 use Rattle.expression_texts.specs.Words.{chain_word, first_between, separated, unless_none}
 use Rattle.expression_texts.proofs.Opened.{op_pushed, chain_pushed, case_pushed, null_test_pushed, truth_test_pushed, same_pushed}
-use Rattle.expression_texts.proofs.Pieces.{when-ok, laid2, laid4, rest_next, rest_end, parts_next}
+use Rattle.expression_texts.proofs.Pieces.{laid2, laid4, rest_next, rest_end, parts_next}
 use Rattle.expression_texts.proofs.expressions.+push_expr.Goals as goal
 
 pub push_expr-returns-in-Op : goal.push_expr-returns-in-Op

@@ -2,8 +2,9 @@ use Rattle.std.proofs.Common.{◌≡◌, true, List, ◌∷◌, ◌++◌, [], sy
 use Rattle.bag_algebra.specs.Rewriting.{Stands}
 use Rattle.bag_algebra.specs.declared.query.Sublink.{Sublink}
 use Rattle.query_laws.specs.Standing.{SubsStand}
+use Rattle.perm_values.proofs.Results.{appended}
 use Rattle.perm_values.proofs.Taken.{opened}
-use Rattle.simpler_laws.proofs.StandingParts.{appended, stand-more}
+use Rattle.query_laws.proofs.StandingSublinks.{stand-more}
 use Rattle.folded_literals.proofs.SimpleNodes.{sublinks-simple}
 use Rattle.folded_literals.specs.Simple.{is_simple}
 use Rattle.folded_literals.specs.built.Simple.{all_simple}

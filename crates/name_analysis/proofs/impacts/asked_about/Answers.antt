@@ -1,9 +1,9 @@
 use Rattle.std.proofs.Common.{refl}
 use Rattle.name_meaning.specs.Queries.{may_not_ask}
 use Rattle.name_meaning.specs.Statements as words
+use Rattle.name_seen.proofs.Rows.{same-refused}
 use Rattle.name_statements.specs.Resolves.{AskedSeen}
 use Rattle.name_statements.proofs.Impacts.{asked-here, asked-unseen}
-use Rattle.name_statements.proofs.Refused.{same-refused}
 use Rattle.name_analysis.proofs.impacts.asked_about.Goals as goal
 
 pub returns-in_err-shown : goal.returns-in_err-shown

@@ -1,9 +1,10 @@
 use Rattle.std.proofs.Common.{refl}
 use Rattle.name_seen_parts.specs.Standing.{around_of}
 use Rattle.sql_tree.specs.declared.statement.StatementBody.TheVariants as st
+use Rattle.name_seen.proofs.Rows.{same-refused}
 use Rattle.name_statements.specs.Resolves.{ResolvesBody}
 use Rattle.name_statements.proofs.Queried.{explain-limited, explain-made, explain-seen}
-use Rattle.name_statements.proofs.Refused.{is-whole, limits-refused, query-refused, query-whole, same-refused}
+use Rattle.name_statements.proofs.Refused.{is-whole, limits-refused, query-refused, query-whole}
 use Rattle.name_analysis.proofs.queries.explained.Goals as goal
 
 pub returns-in_err-shown : goal.returns-in_err-shown

@@ -9,10 +9,11 @@ use Rattle.name_meaning.specs.Trees.{query_of}
 use Rattle.name_meaning.specs.declared.answer.Resolved.TheVariants as r
 use Rattle.name_seen_cores.specs.from.Queried.{QueryWhole}
 use Rattle.sql_tree.specs.declared.statement.StatementBody.TheVariants as st
+use Rattle.name_seen.proofs.Rows.{same-refused}
 use Rattle.name_statements.specs.Resolves.{ResolvesBy, stored_breaks}
 use Rattle.name_statements.specs.declared.queries.Whole.{Whole}
 use Rattle.name_statements.proofs.Queried.{stored-seen, stored-so, stored-told}
-use Rattle.name_statements.proofs.Refused.{known-here, query-refused, query-whole, same-refused, whole-so}
+use Rattle.name_statements.proofs.Refused.{known-here, query-refused, query-whole, whole-so}
 use Rattle.name_analysis.proofs.queries.table_made.Goals as goal
 
 pub whole_of-requires-clause-seen : goal.whole_of-requires-clause-seen

@@ -10,9 +10,10 @@ use Rattle.name_seen_cores.specs.from.Queried.{QueryWhole}
 use Rattle.sql_tree.specs.declared.statement.StatementBody.TheVariants as st
 use Rattle.name_statements.specs.Resolves.{ResolvesBy}
 use Rattle.name_statements.proofs.Queried.{view-limited, view-made, view-repeats, view-seen}
-use Rattle.name_statements.proofs.Refused.{by-limit, is-whole, limits-refused, query-refused, query-whole, repeats-told, same-refused}
+use Rattle.name_statements.proofs.Refused.{by-limit, is-whole, limits-refused, query-refused, query-whole, repeats-told}
 use Rattle.name_analysis.proofs.queries.view_made.Goals as goal
 use Rattle.name_meaning.specs.declared.rule.Rule.TheVariants as rule
+use Rattle.name_seen.proofs.Rows.{same-refused}
 
 pub whole_of-requires-clause-seen : goal.whole_of-requires-clause-seen
 whole_of-requires-clause-seen c =

@@ -9,7 +9,7 @@ use Rattle.perm_catalog.specs.Columns.{column_kinds}
 use Rattle.std.specs.Prelude.{Err}
 use Rattle.name_statements.specs.Resolves.{ResolvesBy}
 use Rattle.name_meaning.specs.declared.answer.Resolved.TheVariants as r
-use Rattle.name_statements.proofs.Refused.{same-refused}
+use Rattle.name_seen.proofs.Rows.{same-refused}
 use Rattle.name_statements.proofs.Tabled.{insert-refused}
 use Rattle.name_analysis.proofs.rows.inserted.Goals as goal
 

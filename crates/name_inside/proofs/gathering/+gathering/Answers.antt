@@ -11,14 +11,15 @@ use Rattle.name_inside.specs.Passed.{HasWidth, IsReadAs}
 use Rattle.name_inside.proofs.Arms.{aggregate_adds, arm-adds, between_adds, case_adds, chain_adds, coalesce_adds, column_adds, compared_adds, exists_adds, inlist_adds, inquery_adds, integer_adds, isdistinct_adds, isnull_adds, istruth_adds, like_adds, logic_adds, nots_adds, null_adds, nullif_adds, nullof_adds, paren_adds, quantified_adds, scalar_adds, signs_adds, step-adds, text_adds, truth_adds}
 use Rattle.name_inside.proofs.Cores.{chain-stands, clauses-adds, core-adds, core-broken, core-stands, inner-adds, named-adds, operand-adds, paren-stands, query-adds, star-adds, table_star-adds, value-adds, first-added, join-tree, lateral-tree, no-sources, source-more, step-added}
 use Rattle.name_inside.proofs.Gone.{flat-more, mapped-more}
-use Rattle.name_inside.proofs.Over.{adds-alike, adds-both, adds-over, ok-anyway, when-ok}
+use Rattle.name_inside.proofs.Over.{adds-alike, adds-both, adds-over}
 use Rattle.name_inside.proofs.gathering.+gathering.Goals as goal
-use Rattle.name_made_parts.proofs.AskedListing.{mapped}
-use Rattle.name_made_parts.proofs.Sourcing.{from-fields}
 use Rattle.name_meaning.specs.Froms.{first_item, from_all, in_clause, in_from, join_all, FromMeant, FromPart}
 use Rattle.std.proofs.lemmas.List.{take_all}
+use Rattle.perm_values.proofs.Lists.{map-taken}
+use Rattle.perm_values.proofs.Results.{when-ok, ok-anyway}
 use Rattle.sql_tree.specs.declared.source.FromTree.{out-FromTree}
 use Rattle.sql_tree.specs.declared.source.JoinStep.{JoinStep}
+use Rattle.name_seen.proofs.FromTrees.{from-means}
 
 pub expression_inside-returns-in-Null : goal.expression_inside-returns-in-Null
 expression_inside-returns-in-Null t c =
@@ -184,7 +185,7 @@ sources_inside-loop-tree-preserved t c =
     let around = c.args.around.now in
     let part = from_of around.catalog.now in
     subst (λ (parts : List FromPart). Adds (held_from (from_all (around_of around).outer parts) ∷ []) c.args.found.now c.from_inside.new.found)
-    (sym (mapped part c.args.trees.now c.loop-tree.tree-index c.tree-item.result c.loop-tree-test.true c.tree-item.is))
+    (sym (map-taken part c.args.trees.now c.loop-tree.tree-index c.tree-item.result c.loop-tree-test.true c.tree-item.is))
     (source-more (around_of around).outer (map part (take c.loop-tree.tree-index c.args.trees.now)) (part c.tree-item.result) c.args.found.now c.loop-tree.found
     c.from_inside.new.found c.loop-tree.invariant c.in_ok-from_inside.ensures)
 
@@ -217,7 +218,7 @@ from_inside-returns t c = λ names.
     let all = rw c.as_slice-step-items.ensures at c.loop-step-test.false in
     subst (λ (m : FromMeant). Adds (held_from m ∷ []) c.args.found.now c.loop-step.found)
     (ap (λ (steps : List JoinStep). join_all outer (first_item names first) (map (join_of around.catalog.now) steps)) (take_all c.loop-step.step-index joins all)
-    ∙ sym (from-fields around.catalog.now tree outer names)) (c.loop-step.invariant names).adds
+    ∙ sym (from-means around.catalog.now tree outer names)) (c.loop-step.invariant names).adds
 
 pub join_inside-returns-then-is_lateral : goal.join_inside-returns-then-is_lateral
 join_inside-returns-then-is_lateral t c =

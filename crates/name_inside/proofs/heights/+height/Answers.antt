@@ -8,7 +8,6 @@ use Rattle.sql_tree.specs.declared.query.SelectItem.{SelectItem}
 use Rattle.sql_tree.specs.declared.query.SetStep.{SetStep}
 use Rattle.sql_tree.specs.declared.source.FromTree.{FromTree, out-FromTree}
 use Rattle.sql_tree.specs.declared.source.JoinStep.{JoinStep}
-use Rattle.name_made_parts.proofs.Sourcing.{from-fields}
 use Rattle.name_made_parts.specs.Cored.{items_meant}
 use Rattle.name_meaning.specs.Expressions.{arm_operands, else_operand, step_operand}
 use Rattle.name_meaning.specs.Froms.{first_item, from_all, in_clause, in_from, join_all}
@@ -18,6 +17,7 @@ use Rattle.name_meaning.specs.Operands.{operand}
 use Rattle.name_meaning.specs.Queries.{may_not_ask, set_chain}
 use Rattle.name_meaning.specs.Sublinks.{around_of}
 use Rattle.name_meaning.specs.Trees.{arm_of, from_item_of, from_of, item_of, join_of, part_of, set_of_tree, set_step_of, step_of}
+use Rattle.name_seen.proofs.FromTrees.{from-means}
 use Rattle.name_inside.specs.heights.Least.{above, above_both, arm_least, chain_least, core_least, expr_least, from_least, highest, if_there, item_least, join_least, least_height, listed_least, operand_least, set_least, sources_least, step_least}
 use Rattle.name_inside.specs.heights.High.{FromHigh, ListHigh, OperandsHigh, OptionalHigh, QueryHigh}
 use Rattle.name_inside.proofs.heights.Chains.{grown, grown-sources, regrouped}
@@ -166,7 +166,7 @@ source_height-returns-clause-high t c = λ held outer earlier sound.
     let all = rw c.as_slice-step-items.ensures at c.loop-step-test.false in
     subst (FromHigh c.loop-step.height)
     (ap (λ (steps : List JoinStep). join_all outer left (map (join_of held) steps)) (take_all c.loop-step.step-index joins all)
-    ∙ sym (from-fields held tree outer earlier)) (c.loop-step.invariant.1 held outer earlier sound)
+    ∙ sym (from-means held tree outer earlier)) (c.loop-step.invariant.1 held outer earlier sound)
 
 pub join_height-returns-then-is_lateral-clause-is : goal.join_height-returns-then-is_lateral-clause-is
 join_height-returns-then-is_lateral-clause-is t c = c.above.ensures.is

@@ -1,15 +1,14 @@
 -- A generated script nests within bounds.
-use Rattle.std.proofs.Common.{◌≡◌, ◌∙◌, ◌+◌, ◌&&◌, ℕ, ℤ, zero, suc, Bool, true, false, not, List, [], ◌∷◌, ◌++◌, length, Option, Some, None, refl, sym, ap, subst}
+use Rattle.std.proofs.Common.{◌≡◌, ◌∙◌, ◌+◌, ◌&&◌, ℕ, zero, suc, Bool, true, false, not, List, [], ◌∷◌, ◌++◌, length, Option, Some, None, refl, sym, ap, subst}
 use Rattle.std.specs.Prelude.{if◌then◌else◌, nat_lt}
 use Rattle.sql_lexer.specs.declared.token.Token.{Token}
-use Rattle.sql_lexer.specs.declared.token.TokenKind.{TokenKind}
-use Rattle.sql_lexer.specs.declared.token.TokenKind.TheVariants.{Word, Quoted, Number, Text, Symbol}
-use Rattle.sql_lexer.specs.Printing.{at_place, placed, plain_spelled, spelling}
-use Rattle.sql_tree.specs.grammar.Sorts.{same_sort, sort_by, sort_of, symbol_sort, word_sort}
+use Rattle.sql_lexer.specs.Printing.{placed, spelling}
+use Rattle.sql_tree.specs.grammar.Sorts.{same_sort, sort_of, symbol_sort, word_sort}
 use Rattle.sql_tree.specs.declared.grammar.sort.Sort.{Sort}
 use Rattle.sql_tree.specs.declared.grammar.sort.Sort.TheVariants as s
 use Rattle.sql_parser.specs.Nesting.{after, first_beyond, too_deep}
 use Rattle.tree_texts.specs.plans.Plans.{tokens_of}
+use Rattle.tree_texts.proofs.Planned.{sort_stays}
 use Rattle.perm_engine.proofs.meaning.generation.Parts.{more_rows}
 use Rattle.perm_engine.proofs.meaning.generation.ScriptPlan.{big_at, others, script}
 
@@ -28,16 +27,6 @@ abbrev within : ℕ → ℕ → List Token → Bool
 within p c [] = true
 within p c (t ∷ ts) =
     stays_within (nat_lt 64 (parentheses_at (sort_of t) p + cases_at (sort_of t) c)) (within (parentheses_at (sort_of t) p) (cases_at (sort_of t) c) ts)
-
-sort_again : (kind : TokenKind) (spelled : List ℕ) (number : ℤ) → sort_by kind (plain_spelled kind spelled number) ≡ sort_by kind spelled
-sort_again Word spelled number = refl
-sort_again Quoted spelled number = refl
-sort_again Number spelled number = refl
-sort_again Text spelled number = refl
-sort_again Symbol spelled number = refl
-
-sort_stays : (at : ℕ) (t : Token) → sort_of (at_place at t) ≡ sort_of t
-sort_stays at t = sort_again t.kind t.spelled t.number
 
 none_beyond : (at p c : ℕ) (ts : List Token) → within p c ts ≡ true → first_beyond 64 p c (placed at ts) ≡ None
 none_beyond at p c [] e = refl

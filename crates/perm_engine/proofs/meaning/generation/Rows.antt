@@ -1,22 +1,18 @@
 -- The rows of big, one more at a time.
-use Rattle.std.proofs.Common.{◌≡◌, ◌∙◌, ℕ, zero, suc, ◌+◌, List, [], ◌∷◌, ◌++◌, refl, sym, ap, arith, append_assoc, append-nil}
+use Rattle.std.proofs.Common.{◌≡◌, ◌∙◌, ℕ, suc, ◌+◌, List, [], ◌∷◌, ◌++◌, refl, sym, ap, arith, append_assoc, append-nil}
 use Rattle.std.specs.List.{flat_map, range_with_len}
 use Rattle.std.proofs.lemmas.Grind.{flat_map-append}
+use Rattle.perm_values.proofs.Ranges.{range-next}
 use Rattle.perm_engine.specs.meaning.generation.Generated.{big_row, big_rows, comma}
 
 abbrev pub line : ℕ → List ℕ
 line place = comma place ++ big_row (place + 1)
 
-range_more : (a n : ℕ) → range_with_len a (suc n) ≡ range_with_len a n ++ (a + n) ∷ []
-range_more a zero = ap (λ m. m ∷ []) (omega arith)
-range_more a (suc n) = let next : a + 1 + n ≡ a + suc n = omega arith in
-    ap (λ ns. a ∷ ns) (range_more (a + 1) n ∙ ap (λ m. range_with_len (a + 1) n ++ m ∷ []) next)
-
 rows_more : (n : ℕ) → big_rows (n + 1) ≡ big_rows n ++ line n
 rows_more n =
     let one : n + 1 ≡ suc n = omega arith in
     let last : 0 + n ≡ n = omega arith in
-    ap big_rows one ∙ ap (flat_map line) (range_more 0 n) ∙ flat_map-append line (range_with_len 0 n) ((0 + n) ∷ [])
+    ap big_rows one ∙ ap (flat_map line) (range-next 0 n) ∙ flat_map-append line (range_with_len 0 n) ((0 + n) ∷ [])
     ∙ ap (λ rest. big_rows n ++ rest) (append-nil (line (0 + n)) ∙ ap line last)
 
 -- the next row, behind its comma, joins those before it

@@ -2,9 +2,9 @@
 use Rattle.std.proofs.Common.{◌≡◌, ◌∙◌, ◌<◌, ◌^◌, ◌+◌, ◌%◌, ◌&&◌, ◌||◌, ℕ, ℤ, pos, negsuc, zero, suc, Bool, true, false, List, [], ◌∷◌, ◌++◌, refl, sym, subst, arith}
 use Rattle.std.specs.Prelude.{codes, nat_lt}
 use Rattle.std.specs.Fmt.{decimal}
-use Rattle.std.specs.List.{AllByRecursion, flat_map, list_all, range_with_len}
+use Rattle.std.specs.List.{AllByRecursion, flat_map, range_with_len}
 use Rattle.std.specs.Str.{IsAscii, IsUtf8, bytes_eq}
-use Rattle.std.proofs.lemmas.Bool.{ltb-true}
+use Rattle.std.proofs.lemmas.Bool.{ltb-true, and_parts}
 use Rattle.std.proofs.lemmas.Fmt.{IsAscii-decimal}
 use Rattle.std.proofs.lemmas.Str.{IsAscii-append, IsUtf8-from_ascii}
 use Rattle.std.proofs.lemmas.Slice.Eq.{bytes_eq-Decides}
@@ -15,21 +15,13 @@ use Rattle.sql_lexer.specs.declared.token.TokenKind.TheVariants.{Word, Quoted, N
 use Rattle.sql_tree.specs.grammar.Grammar.{SqlRule}
 use Rattle.tree_texts.specs.plans.Plans.{Plan, Told, a_word, a_choice, a_token, before, behind, first, second, front_first, front_second, absent, present, no_more, one_more, one_last, at_start, as_symbol}
 use Rattle.tree_texts.specs.plans.Plans as plans
+use Rattle.tree_texts.proofs.Standing.{all_ascii}
 use Rattle.perm_engine.specs.meaning.generation.Generated.{big_row, big_rows, comma, generated, queries, small_rows, tables}
 use Rattle.perm_engine.proofs.meaning.generation.Parts.{more_rows}
 use Rattle.perm_engine.proofs.meaning.generation.Rows.{line}
 use Rattle.perm_engine.proofs.meaning.generation.ScriptPlan.{big_at, first_table, second_table, others, script}
 
 -- ---- ASCII
-
-both : (a b : Bool) → (a && b) ≡ true → (a ≡ true) × (b ≡ true)
-both true b e = (refl, e)
-both false b e = absurd cc
-
-all_ascii : (bytes : List ℕ) → list_all (λ b. nat_lt b 128) bytes ≡ true → IsAscii bytes
-all_ascii [] all i = omega arith
-all_ascii (b ∷ bytes) all zero = ltb-true b 128 (both (nat_lt b 128) (list_all (λ b. nat_lt b 128) bytes) all).0
-all_ascii (b ∷ bytes) all (suc i) = all_ascii bytes (both (nat_lt b 128) (list_all (λ b. nat_lt b 128) bytes) all).1 i
 
 row_ascii : (number : ℕ) → number < 2 ^ 64 → IsAscii (big_row number)
 row_ascii number fits =
@@ -143,7 +135,7 @@ in_range (negsuc n) e = absurd cc
 
 spellable : (kind : TokenKind) (spelled : List ℕ) (number : ℤ) → can_spell kind spelled number ≡ true → CanSpell kind spelled number
 spellable Word spelled number e =
-    let parts = both (is_named names spelled) (is_zero number) e in
+    let parts = and_parts (is_named names spelled) (is_zero number) e in
     subst (CanSpell Word spelled) (sym (no_number number parts.1)) (named names spelled names_spelled parts.0)
 spellable Quoted spelled number e = no_number number e
 spellable Number spelled number e = in_range number e
@@ -173,7 +165,7 @@ told : {rule : SqlRule} (p : Plan rule) → is_told p ≡ true → Told p
 told (a_word written) e = tt
 told (a_choice written is) e = tt
 told (a_token t is) e = spellable t.kind t.spelled t.number e
-told (plans.both p q) e = let parts = both (is_told p) (is_told q) e in (told p parts.0, told q parts.1)
+told (plans.both p q) e = let parts = and_parts (is_told p) (is_told q) e in (told p parts.0, told q parts.1)
 told (before p b) e = told p e
 told (behind b p) e = told p e
 told (first p) e = told p e
@@ -183,7 +175,7 @@ told (front_second p) e = told p e
 told absent e = tt
 told (present p) e = told p e
 told no_more e = tt
-told (one_more p q) e = let parts = both (is_told p) (is_told q) e in (told p parts.0, told q parts.1)
+told (one_more p q) e = let parts = and_parts (is_told p) (is_told q) e in (told p parts.0, told q parts.1)
 told (one_last p) e = told p e
 told (at_start p) e = told p e
 told (as_symbol p) e = told p e

@@ -46,7 +46,7 @@ decimal_numbered rows least most =
 abbrev pub IsWithin : ℕ → Type 0
 IsWithin rows = (1 ≤ rows) × (rows ≤ 100000)
 
-same_rows : (a b : ℕ) → Generated a ≡ Generated b → a ≡ b
+pub same_rows : (a b : ℕ) → Generated a ≡ Generated b → a ≡ b
 same_rows a b e = cc
 
 pub script≢generated : (name : List ℕ) (rows : ℕ) → Script name ≡ Generated rows → ⊥

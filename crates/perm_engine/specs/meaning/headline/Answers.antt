@@ -21,11 +21,12 @@ use Rattle.sql_tree.specs.declared.name.Name.{Name}
 use Rattle.sql_tree.specs.declared.query.QueryTree.{QueryTree}
 use Rattle.sql_tree.specs.declared.query.SetTree.{SetTree}
 use Rattle.sql_tree.specs.declared.statement.Statement.{Statement}
+use Rattle.delete_impact.specs.vanishing.Doomed.{doomed_on}
 use Rattle.statement_meaning.specs.laws.Asks.{AsksFor, HasWord, WithoutWord, shown_names, with_body}
 use Rattle.statement_meaning.specs.laws.Freshened.{StoresFresh}
 use Rattle.statement_meaning.specs.laws.Lost.{AsksImpact, ListsLost}
 use Rattle.statement_meaning.specs.laws.Printed.{ListsBag, ListsBeside}
-use Rattle.statement_meaning.specs.Turns.{counting, goes, reads, remembered}
+use Rattle.statement_meaning.specs.Turns.{counting, reads, remembered}
 use Rattle.perm_engine.specs.meaning.headline.Words.{LacksWord, asking}
 
 -- over these contents the query of the statement answers its rows by this text
@@ -118,7 +119,7 @@ pub record AnswersLost (c : Contents) (statement : Statement) (table : Name) (tr
   pub bag : Bag
   pub means : meaning answer.query (rows_in c.rows) [] ≡ Good bag
   -- where the query reads the table, the condition meets no fault on any of its rows
-  pub met : reads entry.id answer.query ≡ true → (row : Row) → IsTrue (member row (rows_at c entry.id)) → (doomed : Bool) × (goes condition row ≡ Good doomed)
+  pub met : reads entry.id answer.query ≡ true → (row : Row) → IsTrue (member row (rows_at c entry.id)) → (doomed : Bool) × (doomed_on condition row ≡ Good doomed)
   -- the text lists, once each, the rows of the bag that vanish, and nothing else, in the order asked for
   pub lists : ListsLost answer entry.id condition (rows_in c.rows) text
   -- and no other text does

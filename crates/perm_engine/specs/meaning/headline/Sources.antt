@@ -1,18 +1,14 @@
 -- The word PROVENANCE in a subquery of FROM and in a view: sources over the PROVENANCE of the same query without it.
-use Rattle.std.specs.Prelude.{◌≡◌, ℕ, List, [], true, Some}
+use Rattle.std.specs.Prelude.{◌≡◌, ℕ, List, [], Some}
 use Rattle.bag_algebra.specs.declared.query.Query.TheVariants.{Prov}
-use Rattle.name_meaning.specs.Froms.{Read, external}
-use Rattle.name_meaning.specs.Meanings.{Around, QueryMeant, query_means_at}
+use Rattle.name_meaning.specs.Froms.{Read, external, in_from}
+use Rattle.name_meaning.specs.Meanings.{QueryMeant, query_means_at}
 use Rattle.name_meaning.specs.Queries.{count_columns, provenance_places}
 use Rattle.name_meaning.specs.Trees.{query_of}
 use Rattle.name_meaning.specs.declared.scope.Scope.{Scope}
 use Rattle.perm_catalog.specs.Contents.{Contents}
 use Rattle.perm_catalog.specs.declared.entries.ViewEntry.{ViewEntry}
 use Rattle.sql_tree.specs.declared.query.QueryTree.{QueryTree}
-
--- a subquery of a FROM, under these scopes
-abbrev pub in_from : List Scope → Around
-in_from outer = record { outer = outer; may_ask = true }
 
 abbrev pub subquery : Contents → List Scope → QueryTree → QueryMeant
 subquery c outer tree = query_means_at (query_of c tree) (in_from outer)

@@ -29,7 +29,8 @@ pub fn told_files_have_one_run()
     ensures some { (words : List (List ℕ)) (held : List NamedFile)
         → (ran : Ran) × Runs words (Some held) ⊥ ran }
     ensures one { (words : List (List ℕ)) (held : List NamedFile) (a b : Ran)
-        → Runs words (Some held) ⊥ a → Runs words (Some held) ⊥ b → IsUnbroken a → IsUnbroken b → SameRun a b }
+        → Runs words (Some held) ⊥ a → Runs words (Some held) ⊥ b
+        → IsUnbroken a → IsUnbroken b → SameRun a b }
 {
     a_misspelling_has_one_break();
     bytes_are_one_script();

@@ -1,13 +1,14 @@
 use Rattle.std.proofs.Common.{◌∙◌, ◌+◌, [], ◌∷◌, ◌++◌, ap, length, sym, refl, append_assoc}
 use Rattle.std.specs.Prelude.{codes}
 use Rattle.std.proofs.lemmas.List.{take_all}
+use Rattle.perm_values.proofs.Results.{when-ok}
 use Rattle.bag_algebra.specs.Kinds.{width_of}
 use Rattle.bag_algebra.specs.built.Openings.{Aggregate-is, Base-is, Distinct-is, Except-is, Intersect-is, Limit-is, Project_with-is, Prov-is, Union-is}
 use Rattle.bag_algebra.specs.declared.query.Query.TheVariants.{Aggregate, Apply, Base, Distinct, Except, Filter, Intersect, Join, Limit, Project, Prov, Single, Table, Union}
 use Rattle.query_texts.specs.clauses.ClauseTexts.{above_text, below_text, columns_text, grouped_text, join_text, lateral_on, lateral_text, source_text}
 use Rattle.query_texts.specs.clauses.Frames.{called_in}
 use Rattle.query_texts.specs.clauses.Names.{deeper, naming}
-use Rattle.expression_texts.proofs.Pieces.{laid2, laid3, laid4, laid6, mapped_next, when-ok}
+use Rattle.expression_texts.proofs.Pieces.{laid2, laid3, laid4, laid6, mapped_next}
 use Rattle.query_texts.specs.QueryTexts.{query_bytes, sub_text, subs_texts, written}
 use Rattle.query_texts.specs.built.Parts.{block_part, over_bytes, select_part}
 use Rattle.query_texts.proofs.OpenedQueries.{aggregate_pushed, all_part, apply_all, apply_pushed, apply_selected, base_pushed, distinct_pushed, except_text, filter_all, filter_pushed, filter_selected, intersect_text, join_all, join_pushed, join_selected, limit_pushed, no_block, no_part, project_pushed, project_selected, prov_pushed, select_pushed, set_pushed, single_part, sub_joined, table_part, union_text}
@@ -116,7 +117,7 @@ push_query-returns-in_ok-push_listed-in-Limit t c =
     let frame = c.args.frame.now in
     when-ok c.push_limit.result c.push_limit.ensures
     (limit_pushed frame.tables.now frame.prefix.now (called_in frame) c.args.draft.now c.args.query.now c.in-Limit.input _ _ c.in-Limit.keys _ c.in-Limit.count
-    _ _ _ _ c.in-Limit.is c.get-in-Limit.ensures c.in_ok-columns-in-Limit.ensures c.get-in-Limit-2.ensures c.as_slice-in-Limit.ensures
+    _ _ _ _ c.in-Limit.is c.get-in-Limit.ensures c.in_ok-columns-in-Limit.ensures.columns c.get-in-Limit-2.ensures c.as_slice-in-Limit.ensures
     c.in_ok-push-in-Limit.ensures c.in_ok-push_listed-in-Limit.ensures)
 
 pub push_query-returns-in-Prov : goal.push_query-returns-in-Prov
@@ -215,7 +216,7 @@ push_all-returns t c =
     let columns = columns_text frame.prefix.now (called_in frame) in
     when-ok c.push_bare.result c.push_bare.ensures
     (laid2 c.args.draft.now _ _ (columns (width_of c.args.query.now)) (block_part frame.tables.now frame.prefix.now c.args.query.now)
-    (c.in_ok-push_columns.ensures ∙ ap (λ count. c.args.draft.now ++ columns count) c.in_ok-count.ensures))
+    (c.in_ok-push_columns.ensures ∙ ap (λ count. c.args.draft.now ++ columns count) c.in_ok-count.ensures.columns))
 
 -- ---- FROM and WHERE
 
@@ -233,7 +234,7 @@ push_bare-returns-in_ok-push_joined-in-Join t c =
     when-ok c.push_condition.result c.push_condition.ensures
     (join_pushed frame.tables.now frame.prefix.now c.args.draft.now c.args.query.now c.in-Join.kind c.in-Join.left c.in-Join.right _ _ _
     c.in-Join.condition c.in-Join.subs _ _ _ _ _ _ _ c.in-Join.is c.as_slice-in-Join.ensures c.in_ok-texts-in-Join.ensures c.as_slice-in-Join-2.ensures
-    c.get-in-Join.ensures c.in_ok-before-in-Join.ensures c.get-in-Join-2.ensures c.get-in-Join-3.ensures c.in_ok-push_left-in-Join.ensures
+    c.get-in-Join.ensures c.in_ok-before-in-Join.ensures.columns c.get-in-Join-2.ensures c.get-in-Join-3.ensures c.in_ok-push_left-in-Join.ensures
     c.in_ok-push_joined-in-Join.ensures)
 
 pub push_bare-returns-in_ok-push_from-in-Apply : goal.push_bare-returns-in_ok-push_from-in-Apply
@@ -241,7 +242,7 @@ push_bare-returns-in_ok-push_from-in-Apply t c =
     let frame = c.args.frame.now in
     when-ok c.push_lateral.result c.push_lateral.ensures
     (apply_pushed frame.tables.now frame.prefix.now c.args.draft.now c.args.query.now c.in-Apply.kind c.in-Apply.left c.in-Apply.right _ _ _
-    _ _ _ c.in-Apply.is c.get-in-Apply.ensures c.in_ok-before-in-Apply.ensures c.get-in-Apply-2.ensures c.get-in-Apply-3.ensures
+    _ _ _ c.in-Apply.is c.get-in-Apply.ensures c.in_ok-before-in-Apply.ensures.columns c.get-in-Apply-2.ensures c.get-in-Apply-3.ensures
     c.in_ok-push_from-in-Apply.ensures)
 
 pub push_bare-returns-in-Table : goal.push_bare-returns-in-Table
@@ -350,7 +351,7 @@ push_listed-returns-in_ok-push_columns t c =
     let columns = columns_text frame.prefix.now (called_in frame) in
     when-ok c.push_over.result c.push_over.ensures (λ last.
     laid2 c.args.draft.now _ _ (columns (width_of c.args.query.now)) (over_bytes frame.tables.now frame.prefix.now c.args.query.now)
-    (c.in_ok-push_columns.ensures ∙ ap (λ count. c.args.draft.now ++ columns count) c.in_ok-count.ensures) last
+    (c.in_ok-push_columns.ensures ∙ ap (λ count. c.args.draft.now ++ columns count) c.in_ok-count.ensures.columns) last
     ∙ ap (λ text. c.args.draft.now ++ text)
     (listed_over frame.tables.now frame.prefix.now (called_in frame) c.args.query.now (sym c.is_select.ensures ∙ c.if-is_select.false)))
 

@@ -1,8 +1,8 @@
 use Rattle.std.proofs.Common.{true≢false, take, refl, sym, ap, ◌∙◌, subst}
+use Rattle.perm_values.proofs.Lists.{taken}
 use Rattle.bag_algebra.specs.built.Openings.{shape-Prov, Base-is, Filter-is, Join-is, Apply-is, Union-is, Intersect-is, Except-is, Distinct-is, Aggregate-is, Limit-is, Prov-is}
 use Rattle.bag_algebra.specs.declared.query.Query.TheVariants.{Single}
 use Rattle.bag_algebra.specs.declared.query.SubKind.TheVariants.{Exists, Scalar}
-use Rattle.contribution.proofs.Added.{one_more}
 use Rattle.rewrite_driver.proofs.ClosedNodes.{kept-Base, kept-Single, kept-Table}
 use Rattle.rewrite_driver.proofs.MadeQueries.{stands_made, stands_where, rewrites_where, rewrites_without_places}
 use Rattle.rewrite_driver.proofs.SublinkLists.{kept-none, traced-none}
@@ -75,7 +75,7 @@ stand_subs-loop-sub-init t c = kept-none c.new-others.result c.new-others.ensure
 
 pub stand_subs-loop-sub-preserved : goal.stand_subs-loop-sub-preserved
 stand_subs-loop-sub-preserved t c =
-    subst (λ subs. SubsStandClosed subs c.add_standing.new.others) (sym (one_more c.args.subs.now c.loop-sub.sub-index c.sub-item.result c.loop-sub-test.true c.sub-item.is))
+    subst (λ subs. SubsStandClosed subs c.add_standing.new.others) (sym (taken c.args.subs.now c.loop-sub.sub-index c.sub-item.result c.loop-sub-test.true c.sub-item.is))
     (c.in_ok-add_standing.ensures (take c.loop-sub.sub-index c.args.subs.now) c.loop-sub.invariant c.stand-query.ensures)
 
 pub rewriting-returns-else-found : goal.rewriting-returns-else-found
@@ -208,7 +208,7 @@ rewritten_subs-loop-sub-init t c = traced-none c.new-rewritings.result c.new-rew
 
 pub rewritten_subs-loop-sub-preserved : goal.rewritten_subs-loop-sub-preserved
 rewritten_subs-loop-sub-preserved t c =
-    subst (λ subs. SubsTracedClosed subs c.add_rewriting.new.rewritings) (sym (one_more c.args.subs.now c.loop-sub.sub-index c.sub-item.result c.loop-sub-test.true c.sub-item.is))
+    subst (λ subs. SubsTracedClosed subs c.add_rewriting.new.rewritings) (sym (taken c.args.subs.now c.loop-sub.sub-index c.sub-item.result c.loop-sub-test.true c.sub-item.is))
     (c.in_ok-add_rewriting.ensures (take c.loop-sub.sub-index c.args.subs.now) c.sub-item.result c.loop-sub.invariant c.traced-query.ensures)
 
 pub traced-returns-in-Exists : goal.traced-returns-in-Exists

@@ -1,11 +1,11 @@
 use Rattle.std.proofs.Common.{subst}
+use Rattle.perm_values.proofs.Results.{where_made}
 use Rattle.bag_algebra.specs.Rewriting.{Stands}
 use Rattle.rewrite_core.specs.rewritings.OpenSublinks.{NoOpenSublink}
 use Rattle.rewrite_driver.proofs.NoRowLost.{keeps-rows}
 use Rattle.rewrite_driver.proofs.driver.eliminate.Goals as goal
 use Rattle.rewrite_driver.specs.FirstColumns.{KeepsRows}
 use Rattle.rewrite_driver.specs.KeptClosed.{StandsClosed}
-use Rattle.rewrite_driver.proofs.MadeQueries.{where_made}
 
 pub returns-clause-stands : goal.returns-clause-stands
 returns-clause-stands c =

@@ -1,6 +1,6 @@
 use Rattle.std.proofs.Common.{All}
+use Rattle.perm_values.proofs.Results.{where_made}
 use Rattle.rewrite_core.specs.rewritings.OpenSublinks.{IsClosedSublink, NoOpenSublink}
-use Rattle.rewrite_driver.proofs.MadeQueries.{where_made}
 use Rattle.rewrite_driver.proofs.joins.join_moved.Goals as goal
 
 pub returns-clause-none_open : goal.returns-clause-none_open

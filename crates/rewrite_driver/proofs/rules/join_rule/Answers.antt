@@ -1,5 +1,6 @@
 use Rattle.std.proofs.Common.{◌≡◌, [], All, List, arith, sym, subst}
 use Rattle.std.proofs.lemmas.Grind.{common_steps}
+use Rattle.std.proofs.lemmas.List.{nil_from_length}
 use Rattle.bag_algebra.specs.Rewriting.{IsRewrite}
 use Rattle.bag_algebra.specs.declared.query.Query.{Query}
 use Rattle.bag_algebra.specs.declared.query.Query.TheVariants.{Join}
@@ -7,7 +8,7 @@ use Rattle.bag_algebra.specs.declared.query.Sublink.{Sublink}
 use Rattle.perm_values.proofs.Taken.{opened}
 use Rattle.rewrite_core.proofs.ClosedSublinks.{parts-Join}
 use Rattle.rewrite_core.specs.rewritings.OpenSublinks.{IsClosedSublink}
-use Rattle.rewrite_driver.proofs.MadeQueries.{both_made, none_left}
+use Rattle.rewrite_driver.proofs.MadeQueries.{both_made}
 use Rattle.rewrite_driver.proofs.rules.join_rule.Goals as goal
 use Rattle.rewrite_driver.specs.KeptClosed.{RewritesClosed, SubsStandClosed, SubsTracedClosed}
 
@@ -21,7 +22,7 @@ join-requires-clause-right c =
 
 pub returns-then-is_empty : goal.returns-then-is_empty
 returns-then-is_empty c =
-    let none : c.args.subs.now ≡ [] = none_left c.args.subs.now (grind (arith, common_steps, c.is_empty.ensures, c.if-is_empty.true)) in
+    let none : c.args.subs.now ≡ [] = nil_from_length c.args.subs.now (grind (arith, common_steps, c.is_empty.ensures, c.if-is_empty.true)) in
     let left = opened (λ (r : Query). RewritesClosed c.args.left.now r) c.args.lefts _ c.in_ok-lefts.ensures.first_was c.requires.left in
     let right = opened (λ (r : Query). RewritesClosed c.args.right.now r) c.args.rights _ c.in_ok-lefts.ensures.second_was c.requires.right in
     both_made _ _ (λ p. RewritesClosed (Join c.args.kind c.args.left.now c.args.right.now c.args.condition.now c.args.subs.now) p) c.join.result c.join.ensures.rewrites c.join.ensures.none_open

@@ -1,5 +1,6 @@
 use Rattle.std.proofs.Common.{◌≡◌, [], All, List, arith, sym, subst}
 use Rattle.std.proofs.lemmas.Grind.{common_steps}
+use Rattle.std.proofs.lemmas.List.{nil_from_length}
 use Rattle.bag_algebra.specs.Rewriting.{IsRewrite}
 use Rattle.bag_algebra.specs.declared.query.Query.{Query}
 use Rattle.bag_algebra.specs.declared.query.Query.TheVariants.{Project}
@@ -7,7 +8,7 @@ use Rattle.bag_algebra.specs.declared.query.Sublink.{Sublink}
 use Rattle.perm_values.proofs.Taken.{opened}
 use Rattle.rewrite_core.proofs.ClosedSublinks.{parts-Project}
 use Rattle.rewrite_core.specs.rewritings.OpenSublinks.{IsClosedSublink}
-use Rattle.rewrite_driver.proofs.MadeQueries.{both_made, none_left}
+use Rattle.rewrite_driver.proofs.MadeQueries.{both_made}
 use Rattle.rewrite_driver.proofs.rules.project_rule.Goals as goal
 use Rattle.rewrite_driver.specs.KeptClosed.{RewritesClosed, SubsStandClosed, SubsTracedClosed}
 
@@ -17,7 +18,7 @@ project-requires c =
 
 pub returns-then-is_empty : goal.returns-then-is_empty
 returns-then-is_empty c =
-    let none : c.args.subs.now ≡ [] = none_left c.args.subs.now (grind (arith, common_steps, c.is_empty.ensures, c.if-is_empty.true)) in
+    let none : c.args.subs.now ≡ [] = nil_from_length c.args.subs.now (grind (arith, common_steps, c.is_empty.ensures, c.if-is_empty.true)) in
     let given = opened (λ (r : Query). RewritesClosed c.args.input.now r) c.args.rewriting _ c.in_ok-rewriting.ensures.first_was c.requires.rewritten in
     both_made _ _ (λ p. RewritesClosed (Project c.args.input.now c.args.items.now c.args.subs.now) p) c.project.result c.project.ensures.rewrites c.project.ensures.none_open
     (λ p r n. record {

@@ -1,6 +1,6 @@
 use Rattle.std.proofs.Common.{◌∷◌, ◌++◌, []}
+use Rattle.perm_values.proofs.Results.{appended}
 use Rattle.perm_values.proofs.Taken.{opened}
-use Rattle.rewrite_driver.proofs.MadeQueries.{appended}
 use Rattle.rewrite_driver.proofs.SublinkLists.{traced-more}
 use Rattle.rewrite_move.specs.Traced.{traced_of}
 use Rattle.rewrite_driver.proofs.sublinks.add_rewriting.Goals as goal

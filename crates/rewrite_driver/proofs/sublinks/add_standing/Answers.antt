@@ -3,9 +3,9 @@ use Rattle.bag_algebra.specs.Rewriting.{Stands}
 use Rattle.bag_algebra.specs.declared.query.Query.{Query}
 use Rattle.query_laws.proofs.SameExpressions.{optional-itself}
 use Rattle.query_laws.specs.SameExpressions.{SameOptional}
+use Rattle.perm_values.proofs.Results.{appended}
 use Rattle.perm_values.proofs.Taken.{opened}
 use Rattle.rewrite_core.specs.rewritings.OpenSublinks.{NoOpenSublink}
-use Rattle.rewrite_driver.proofs.MadeQueries.{appended}
 use Rattle.rewrite_driver.proofs.SublinkLists.{kept-more}
 use Rattle.rewrite_driver.proofs.sublinks.add_standing.Goals as goal
 use Rattle.rewrite_driver.specs.KeptClosed.{StandsClosed, SubsStandClosed}

@@ -1,8 +1,9 @@
 use Rattle.std.proofs.Common.{◌≡◌, sym, subst, ◌∙◌}
+use Rattle.perm_values.proofs.Results.{where_made}
 use Rattle.bag_algebra.specs.Kinds.{width_of}
 use Rattle.bag_algebra.specs.declared.query.Query.{Query}
 use Rattle.lateral_rewrite.specs.Dependent.{contributed, provenance_of}
-use Rattle.rewrite_move.proofs.MovedRows.{StandBeside, all-moved, kept_ok, moved-as, nulls-like, stand_beside}
+use Rattle.rewrite_move.proofs.MovedRows.{StandBeside, all-moved, moved-as, nulls-like, stand_beside}
 use Rattle.rewrite_move.proofs.contributions.with_contribution.Goals as goal
 use Rattle.rewrite_move.specs.Moved.{Like, beside_nulls, matched, moved, provenance_kinds}
 use Rattle.rewrite_move.specs.Traced.{traced_of}
@@ -10,7 +11,7 @@ use Rattle.rewrite_move.specs.declared.share.Share.TheVariants.{NoRow, AllRows, 
 
 pub returns-in-NoRow : goal.returns-in-NoRow
 returns-in-NoRow c whole l =
-    kept_ok (λ p. p ≡ beside_nulls c.args.rows (provenance_kinds c.args.rewriting.now (width_of c.traced.result.now)))
+    where_made (λ p. p ≡ beside_nulls c.args.rows (provenance_kinds c.args.rewriting.now (width_of c.traced.result.now)))
     (Like (moved c.args.known whole c.args.sub.now c.args.standing.now c.args.rewriting.now)) c.beside_nothing.result
     (λ p is. moved-as c.args.sub.now c.args.standing.now c.args.rewriting.now c.args.known whole p NoRow (sym c.share_of.ensures ∙ c.in-NoRow.is)
     (subst (Like (beside_nulls whole (provenance_kinds c.args.rewriting.now (width_of (traced_of c.args.sub.now)))))
@@ -20,7 +21,7 @@ returns-in-NoRow c whole l =
 
 pub returns-in-AllRows : goal.returns-in-AllRows
 returns-in-AllRows c whole l =
-    kept_ok (StandBeside c.args.rows (provenance_of c.args.rewriting.now (width_of c.traced-in-AllRows.result.now)))
+    where_made (StandBeside c.args.rows (provenance_of c.args.rewriting.now (width_of c.traced-in-AllRows.result.now)))
     (Like (moved c.args.known whole c.args.sub.now c.args.standing.now c.args.rewriting.now)) c.beside_all.result
     (λ p is. moved-as c.args.sub.now c.args.standing.now c.args.rewriting.now c.args.known whole p AllRows (sym c.share_of.ensures ∙ c.in-AllRows.is)
     (all-moved whole c.args.rows l c.args.rewriting.now c.requires.traced.plain p (width_of (traced_of c.args.sub.now))
@@ -30,14 +31,14 @@ returns-in-AllRows c whole l =
 
 pub returns-in-MatchingRows : goal.returns-in-MatchingRows
 returns-in-MatchingRows c whole l =
-    kept_ok (Like (matched c.in-MatchingRows.choice c.args.standing.now.tested whole c.args.standing.now c.args.rewriting.now))
+    where_made (Like (matched c.in-MatchingRows.choice c.args.standing.now.tested whole c.args.standing.now c.args.rewriting.now))
     (Like (moved c.args.known whole c.args.sub.now c.args.standing.now c.args.rewriting.now)) c.beside_matched.result
     (λ p like. moved-as c.args.sub.now c.args.standing.now c.args.rewriting.now c.args.known whole p (MatchingRows c.in-MatchingRows.choice)
     (sym c.share_of.ensures ∙ c.in-MatchingRows.is) like) (c.beside_matched.ensures whole l)
 
 pub returns-in-ByValue : goal.returns-in-ByValue
 returns-in-ByValue c whole l =
-    kept_ok (Like (contributed whole c.args.standing.now c.args.rewriting.now))
+    where_made (Like (contributed whole c.args.standing.now c.args.rewriting.now))
     (Like (moved c.args.known whole c.args.sub.now c.args.standing.now c.args.rewriting.now)) c.beside_compared.result
     (λ p like. moved-as c.args.sub.now c.args.standing.now c.args.rewriting.now c.args.known whole p ByValue (sym c.share_of.ensures ∙ c.in-ByValue.is) like)
     (c.beside_compared.ensures whole l)

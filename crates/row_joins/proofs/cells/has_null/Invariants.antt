@@ -1,6 +1,6 @@
 use Rattle.std.proofs.Common.{◌≡◌, drop}
 use Rattle.std.specs.List.{list_any}
-use Rattle.null_logic.specs.Comparison.{is_null}
+use Rattle.perm_values.specs.Values.{is_null}
 use Rattle.bag_algebra.specs.Means.{cell}
 use Rattle.row_joins.proofs.cells.has_null.Given as goal
 

@@ -1,5 +1,5 @@
-use Rattle.row_values.proofs.Taken.{taken}
 use Rattle.std.proofs.Common.{take}
+use Rattle.perm_values.proofs.Lists.{taken}
 use Rattle.row_nodes.specs.Known.{tests_equality}
 use Rattle.row_nodes.proofs.Kept.{known_more, new_more}
 use Rattle.row_nodes.proofs.known.known_subs.Goals as goal

@@ -1,9 +1,9 @@
 use Rattle.std.proofs.Common.{sym, ap, subst, ◌∙◌, ◌∷◌, ◌++◌, [], take, IsSorted}
 use Rattle.perm_values.specs.Rows.{printed_cmp}
+use Rattle.perm_values.proofs.Lists.{taken}
 use Rattle.bag_algebra.specs.Bags.{sorted}
 use Rattle.bag_algebra.proofs.SortedBags.{printed_exact}
 use Rattle.row_nodes.proofs.Foremost.{kept_more, take-again}
-use Rattle.row_values.proofs.Taken.{taken}
 use Rattle.row_nodes.proofs.limit.foremost.Goals as goal
 use Rattle.row_nodes.proofs.limit.foremost.Goals.{then-not-is_behind+in_ok-copy+in_ok-push+in_ok-kept, else-not-is_behind}
 

@@ -1,6 +1,6 @@
 use Rattle.std.proofs.Common.{◌∙◌}
+use Rattle.perm_values.proofs.Lists.{taken}
 use Rattle.row_nodes.proofs.Seeing.{is_wanted, is_unwanted, sees_wanted, sees_unwanted}
-use Rattle.row_values.proofs.Taken.{taken}
 use Rattle.row_nodes.proofs.marks.left_out.Goals as goal
 use Rattle.row_nodes.proofs.marks.left_out.Goals.{then-contains-common+in_ok-is_new+in_ok-push, else-contains-common+in_ok-push-2}
 

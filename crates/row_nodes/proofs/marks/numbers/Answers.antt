@@ -4,7 +4,7 @@ use Rattle.row_nodes.proofs.Flags.{count-length}
 use Rattle.row_nodes.proofs.Spending.{one_more, numbers_put}
 use Rattle.bag_algebra.specs.Bags.{Row}
 use Rattle.std.specs.Borrow.{Bor}
-use Rattle.row_values.proofs.Taken.{taken}
+use Rattle.perm_values.proofs.Lists.{taken}
 use Rattle.row_nodes.proofs.marks.numbers.Goals as goal
 
 pub overflow_add-before : goal.overflow_add-before

@@ -2,7 +2,7 @@ use Rattle.std.proofs.Common.{refl, arith}
 use Rattle.row_nodes.proofs.Spending.{spends_one, spends_none}
 use Rattle.bag_algebra.specs.Bags.{Row}
 use Rattle.std.specs.Borrow.{Bor}
-use Rattle.row_values.proofs.Taken.{taken}
+use Rattle.perm_values.proofs.Lists.{taken}
 use Rattle.row_nodes.proofs.marks.over.Goals as goal
 use Rattle.row_nodes.proofs.marks.over.Goals.{then-rest-gt0+in_ok-insert, else-rest-gt0}
 

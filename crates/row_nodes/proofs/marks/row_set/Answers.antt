@@ -1,5 +1,5 @@
+use Rattle.perm_values.proofs.Lists.{taken}
 use Rattle.row_nodes.proofs.Seeing.{holds_more}
-use Rattle.row_values.proofs.Taken.{taken}
 use Rattle.row_nodes.proofs.marks.row_set.Goals as goal
 
 pub loop-row-preserved : goal.loop-row-preserved

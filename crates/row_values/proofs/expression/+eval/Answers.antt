@@ -1,11 +1,11 @@
 use Rattle.std.proofs.Common.{[], ◌∷◌, ◌++◌, take, sym, ap, subst, ◌∙◌, arith}
+use Rattle.perm_values.proofs.Lists.{taken}
 use Rattle.bag_algebra.specs.Expressions.{value, operate, chain}
 use Rattle.bag_algebra.specs.Outcome.{mapped, each}
 use Rattle.bag_algebra.specs.Children.{step_of, arms_value}
 use Rattle.row_values.specs.Answers.{Refuses}
 use Rattle.row_values.specs.Parts.{gone_on, joined}
 use Rattle.row_values.proofs.Outcomes.{along, passed, mapped_part, and_then_first, both_then_second, each_item, each_good}
-use Rattle.row_values.proofs.Taken.{taken}
 use Rattle.row_values.proofs.Truths.{together_more}
 use Rattle.row_values.proofs.Values.{on_op, on_chain, on_case, on_is_null, on_is_truth, on_same, chain_more, chose_some, chose_none}
 use Rattle.row_values.proofs.expression.+eval.Goals as goal

@@ -1,5 +1,5 @@
 use Rattle.std.proofs.Common.{take}
-use Rattle.row_values.proofs.Taken.{taken}
+use Rattle.perm_values.proofs.Lists.{taken}
 use Rattle.row_values.proofs.Truths.{in_list_more}
 use Rattle.row_values.proofs.operate.in_list.Goals as goal
 

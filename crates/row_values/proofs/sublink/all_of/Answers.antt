@@ -1,6 +1,6 @@
 use Rattle.std.proofs.Common.{take}
+use Rattle.perm_values.proofs.Lists.{taken}
 use Rattle.row_values.proofs.Quantified.{all_more}
-use Rattle.row_values.proofs.Taken.{taken}
 use Rattle.row_values.proofs.sublink.all_of.Goals as goal
 
 pub loop-row-preserved : goal.loop-row-preserved

@@ -1,8 +1,8 @@
 use Rattle.std.proofs.Common.{[], ◌∷◌, ◌++◌, cond, sym, subst}
 use Rattle.std.specs.Prelude.{OnOk}
+use Rattle.perm_values.proofs.Results.{appended}
 use Rattle.contribution.specs.MovedColumns.{PartsMoved}
 use Rattle.simpler_laws.proofs.Added.{moved-behind}
-use Rattle.simpler_laws.proofs.StandingParts.{appended}
 use Rattle.simpler_laws.proofs.pairs.add_moved_where.Goals as goal
 
 pub returns-then-goes : goal.returns-then-goes

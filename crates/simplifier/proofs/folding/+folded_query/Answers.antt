@@ -1,10 +1,10 @@
 use Rattle.std.specs.Prelude.{◌&&◌}
 use Rattle.std.proofs.Common.{◌≡◌, true, true≢false, take, take_all, refl, sym, subst, rules}
+use Rattle.perm_values.proofs.Lists.{taken}
 use Rattle.bag_algebra.proofs.Truths.{left-true, right-true}
 use Rattle.bag_algebra.specs.Rewriting.{is_plain, Stands}
 use Rattle.bag_algebra.specs.declared.query.Query.{the_lemmas}
 use Rattle.bag_algebra.specs.declared.query.Query.TheVariants.{Single, Filter, Project, Join, Apply, Union, Intersect, Except, Limit}
-use Rattle.contribution.proofs.Added.{one_more}
 use Rattle.contribution.proofs.NodeQueries.{of_made}
 use Rattle.query_laws.proofs.StandingNodes.{stands-Base}
 use Rattle.query_laws.specs.Standing.{SubsStand}
@@ -196,7 +196,7 @@ folded_subs-folded_query-query-requires t c =
 
 pub folded_subs-loop-sub-preserved : goal.folded_subs-loop-sub-preserved
 folded_subs-loop-sub-preserved t c = record {
-  stand = subst (λ subs. SubsStand subs c.add_folded.new.others) (sym (one_more c.args.subs.now c.loop-sub.sub-index c.sub-item.result c.loop-sub-test.true c.sub-item.is))
+  stand = subst (λ subs. SubsStand subs c.add_folded.new.others) (sym (taken c.args.subs.now c.loop-sub.sub-index c.sub-item.result c.loop-sub-test.true c.sub-item.is))
       (c.in_ok-add_folded.ensures.stand (take c.loop-sub.sub-index c.args.subs.now) c.loop-sub.invariant.stand c.folded_query-query.ensures.stands);
   simple = c.in_ok-add_folded.ensures.simple c.loop-sub.invariant.simple c.folded_query-query.ensures.simple;
 }

@@ -5,17 +5,18 @@ use Rattle.bag_algebra.specs.declared.query.Query.{the_lemmas}
 use Rattle.bag_algebra.specs.built.FaultFree.{all_fault_free}
 use Rattle.bag_algebra.specs.declared.query.JoinKind.TheVariants.{Inner}
 use Rattle.bag_algebra.specs.declared.query.Query.TheVariants.{Single, Filter, Join, Project}
-use Rattle.contribution.proofs.Added.{one_more}
 use Rattle.query_laws.proofs.StandingNodes.{stands-Base}
 use Rattle.query_laws.specs.Standing.{SubsStand}
 use Rattle.bag_algebra.specs.built.Scopes.{all_plain, is_plain-Base, is_plain-Filter, is_plain-Project, is_plain-Join, is_plain-Apply, is_plain-Union, is_plain-Intersect, is_plain-Except, is_plain-Distinct, is_plain-Aggregate, is_plain-Limit, is_plain-Prov}
 use Rattle.rewrite_core.proofs.Itself.{stands-Table, stands-Single}
 use Rattle.std.specs.Prelude.{IfSome}
+use Rattle.perm_values.proofs.Lists.{taken}
+use Rattle.perm_values.proofs.Results.{where_made}
 use Rattle.contribution.specs.Conjunctions.{all_hold}
 use Rattle.simpler_laws.specs.Lowered.{IsLowered}
 use Rattle.simpler_laws.specs.Tested.{tested}
 use Rattle.simplifier.proofs.Passing.{filter-input, filter-subs, only-safe, only-passes, quiet-safe, quiet-passes, project-input, project-safe, project-passes, join-left, join-right, left-safe, right-safe, join-passes}
-use Rattle.simpler_laws.proofs.StandingParts.{where_made, stands_made, stands_where, one_of, first_of, second_of, at_each}
+use Rattle.simpler_laws.proofs.StandingParts.{stands_made, stands_where, one_of, first_of, second_of, at_each}
 use Rattle.simplifier.proofs.passes.+under.Goals as goal
 
 pub node-under-requires : goal.node-under-requires
@@ -159,7 +160,7 @@ nodes-under-query-requires t c =
 
 pub nodes-loop-sub-preserved : goal.nodes-loop-sub-preserved
 nodes-loop-sub-preserved t c =
-    subst (λ subs. SubsStand subs c.add_standing.new.others) (sym (one_more c.args.subs.now c.loop-sub.sub-index c.sub-item.result c.loop-sub-test.true c.sub-item.is))
+    subst (λ subs. SubsStand subs c.add_standing.new.others) (sym (taken c.args.subs.now c.loop-sub.sub-index c.sub-item.result c.loop-sub-test.true c.sub-item.is))
     (c.in_ok-add_standing.ensures (take c.loop-sub.sub-index c.args.subs.now) c.loop-sub.invariant c.under-query.ensures)
 
 pub under-under-requires : goal.under-under-requires

@@ -1,8 +1,8 @@
 use Rattle.std.proofs.Common.{◌≡◌, true}
 use Rattle.bag_algebra.specs.Rewriting.{is_plain, Stands}
+use Rattle.perm_values.proofs.Results.{where_made}
 use Rattle.perm_values.proofs.Taken.{opened}
 use Rattle.rewrite_core.proofs.Itself.{stands-onward}
-use Rattle.simpler_laws.proofs.StandingParts.{where_made}
 use Rattle.simplifier.proofs.passes.folded_again.Goals as goal
 
 pub folded_query-made-requires : goal.folded_query-made-requires

@@ -1,7 +1,7 @@
 use Rattle.bag_algebra.specs.Rewriting.{Stands}
+use Rattle.perm_values.proofs.Results.{where_made}
 use Rattle.perm_values.proofs.Taken.{opened}
 use Rattle.rewrite_core.proofs.Itself.{stands-onward}
-use Rattle.simpler_laws.proofs.StandingParts.{where_made}
 use Rattle.simplifier.proofs.passes.lowered_tests.Goals as goal
 
 pub returns : goal.returns

@@ -1,7 +1,7 @@
 use Rattle.std.proofs.Common.{◌≡◌, true}
+use Rattle.perm_values.proofs.Results.{where_made}
 use Rattle.bag_algebra.specs.Rewriting.{is_plain, Stands}
 use Rattle.rewrite_core.proofs.Itself.{stands-onward}
-use Rattle.simpler_laws.proofs.StandingParts.{where_made}
 use Rattle.simplifier.proofs.passes.simplify.Goals as goal
 
 pub lowered_tests-requires : goal.lowered_tests-requires

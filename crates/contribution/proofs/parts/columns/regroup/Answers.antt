@@ -1,12 +1,12 @@
 use Rattle.std.proofs.Common.{◌≡◌, List, [], map, IfOk, subst}
-use Rattle.perm_values.specs.Rows.{picked}
+use Rattle.perm_values.specs.Rows.{picked, PlacesWithin}
 use Rattle.perm_values.specs.declared.kind.Kind.{Kind}
 use Rattle.bag_algebra.specs.Bags.{Row}
 use Rattle.bag_algebra.specs.Kinds.{kinds_of, kinds_in, width_of}
 use Rattle.bag_algebra.specs.Meaning.{Database, meaning}
 use Rattle.bag_algebra.specs.Outcome.{mapped}
 use Rattle.bag_algebra.specs.built.Patterns.{ProjectOf}
-use Rattle.bag_algebra.specs.WellFormed.{PlacesIn, WellFormed}
+use Rattle.bag_algebra.specs.WellFormed.{WellFormed}
 use Rattle.bag_algebra.specs.declared.query.Query.{end_of-Sublink}
 use Rattle.contribution.proofs.ColumnQueries.{kinds_of-columns, meaning-columns, formed-columns}
 use Rattle.contribution.proofs.NodeQueries.{of_made}
@@ -27,5 +27,5 @@ returns-clause-rows c =
 
 pub returns-clause-formed : goal.returns-clause-formed
 returns-clause-formed c =
-    of_made (λ p. PlacesIn (width_of c.args.query) c.args.order.now → (outer : List (List Kind)) → WellFormed outer c.args.query → WellFormed outer p)
+    of_made (λ p. PlacesWithin (width_of c.args.query) c.args.order.now → (outer : List (List Kind)) → WellFormed outer c.args.query → WellFormed outer p)
     c.projection.result _ (returns-clause-made c) (formed-columns c.args.query c.args.order.now)

@@ -3,7 +3,7 @@ use Rattle.perm_values.specs.declared.kind.Kind.{Kind}
 use Rattle.bag_algebra.specs.Bags.{Row}
 use Rattle.bag_algebra.specs.built.Openings.{Project-is}
 use Rattle.bag_algebra.specs.TablesRead.{tables_read}
-use Rattle.bag_algebra.specs.Kinds.{kinds_of}
+use Rattle.bag_algebra.specs.Kinds.{kinds_of, item_kinds}
 use Rattle.bag_algebra.specs.Meaning.{Database, meaning, items_on}
 use Rattle.bag_algebra.specs.Means.{no_subs}
 use Rattle.bag_algebra.specs.Outcome.{and_then, each}
@@ -12,7 +12,6 @@ use Rattle.bag_algebra.specs.WellFormed.{WellFormed, ItemsForm}
 use Rattle.bag_algebra.specs.declared.query.Query.{Query}
 use Rattle.bag_algebra.specs.declared.query.Query.TheVariants.{Project}
 use Rattle.contribution.proofs.NodeQueries.{of_made, meaning-projected, formed-projected, plain-projected, tables-projected}
-use Rattle.contribution.specs.ItemKinds.{item_kinds}
 use Rattle.contribution.proofs.parts.nodes.projection.Goals as goal
 
 pub returns-clause-made : goal.returns-clause-made

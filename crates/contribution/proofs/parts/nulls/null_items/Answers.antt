@@ -2,12 +2,12 @@ use Rattle.std.proofs.Common.{◌≡◌, List, [], length, map, sym, ap, subst, 
 use Rattle.std.proofs.lemmas.List.{take_all}
 use Rattle.perm_values.specs.declared.kind.Kind.{Kind}
 use Rattle.bag_algebra.specs.Bags.{Row, nulls}
+use Rattle.bag_algebra.specs.Kinds.{item_kinds}
 use Rattle.bag_algebra.specs.Meaning.{items_on}
 use Rattle.bag_algebra.specs.Means.{no_subs}
 use Rattle.bag_algebra.specs.Outcome.{Good}
 use Rattle.bag_algebra.specs.WellFormed.{ItemsForm}
 use Rattle.contribution.proofs.Padding.{null_items-kinds, null_items-give, null_items-formed}
-use Rattle.contribution.specs.ItemKinds.{item_kinds}
 use Rattle.contribution.specs.NullItems.{null_item}
 use Rattle.contribution.proofs.parts.nulls.null_items.Goals as goal
 

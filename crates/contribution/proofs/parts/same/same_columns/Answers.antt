@@ -1,6 +1,6 @@
 use Rattle.std.proofs.Common.{◌≡◌, List, ◌∷◌, IsTrue, Some, length, sym, ap, subst, ◌∙◌}
 use Rattle.std.specs.Prelude.{slice_get}
-use Rattle.perm_values.specs.Rows.{picked, same_row}
+use Rattle.perm_values.specs.Rows.{picked, same_row, PlacesWithin}
 use Rattle.perm_values.specs.declared.kind.Kind.{Kind}
 use Rattle.perm_values.specs.declared.kind.Kind.TheVariants as kind
 use Rattle.perm_values.specs.declared.value.Value.{Value}
@@ -10,7 +10,7 @@ use Rattle.bag_algebra.specs.Expressions.{row_at, value}
 use Rattle.bag_algebra.specs.FaultFree.{faultless}
 use Rattle.bag_algebra.specs.Kinds.{kinds_in}
 use Rattle.bag_algebra.specs.Outcome.{Good}
-use Rattle.bag_algebra.specs.WellFormed.{HasKind, PlacesIn}
+use Rattle.bag_algebra.specs.WellFormed.{HasKind}
 use Rattle.contribution.proofs.SameTests.{tests-value, conjunction-formed, conjunction-faultless}
 use Rattle.contribution.specs.Conjunctions.{all_hold}
 use Rattle.contribution.proofs.parts.same.same_columns.Goals as goal
@@ -27,7 +27,7 @@ returns-clause-value c =
 pub returns-clause-kind : goal.returns-clause-kind
 returns-clause-kind c =
     subst (λ test. (kinds others : List Kind) (outer : List (List Kind)) (subs : List Kind) → slice_get (kinds ∷ outer) c.args.level ≡ Some others →
-    PlacesIn (length others) c.args.theirs.now → PlacesIn (length kinds) c.args.own.now →
+    PlacesWithin (length others) c.args.theirs.now → PlacesWithin (length kinds) c.args.own.now →
     kinds_in others c.args.theirs.now ≡ kinds_in kinds c.args.own.now → HasKind (kinds ∷ outer) subs test kind.Boolean) (sym (returns-clause-made c))
     (λ kinds others outer subs there. conjunction-formed kinds outer subs c.args.level others there c.args.theirs.now c.args.own.now)
 

@@ -1,5 +1,5 @@
 use Rattle.std.proofs.Common.{◌∙◌, ◌++◌, ap, unwrap_or}
-use Rattle.expression_texts.proofs.Pieces.{when-ok}
+use Rattle.perm_values.proofs.Results.{when-ok}
 use Rattle.query_texts.specs.clauses.Frames.{called_in}
 use Rattle.query_texts.specs.clauses.Names.{nameless}
 use Rattle.query_texts.specs.clauses.ClauseTexts.{listed_text, table_text}

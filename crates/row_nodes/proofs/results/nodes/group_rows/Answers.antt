@@ -1,8 +1,7 @@
 use Rattle.std.proofs.Common.{ap}
-use Rattle.bag_algebra.specs.Meaning.{arguments_on}
+use Rattle.bag_algebra.specs.Meaning.{arguments_on, functions_of}
 use Rattle.bag_algebra.specs.Means.{grouped}
 use Rattle.bag_algebra.specs.Outcome.{and_then}
-use Rattle.row_values.specs.Columns.{functions_of}
 use Rattle.row_values.proofs.Outcomes.{along, passed, and_then_first}
 use Rattle.row_nodes.proofs.Given.{given_fault, given_good}
 use Rattle.row_nodes.proofs.results.nodes.group_rows.Goals as goal

@@ -1,5 +1,5 @@
 use Rattle.std.proofs.Common.{sym, ◌∙◌, take}
-use Rattle.row_values.proofs.Taken.{taken}
+use Rattle.perm_values.proofs.Lists.{taken}
 use Rattle.row_values.proofs.Totals.{held_step, held_same}
 use Rattle.row_values.proofs.groups.aggregate.count_distinct.Goals as goal
 use Rattle.row_values.proofs.groups.aggregate.count_distinct.Goals.{then-not-is_null+in_ok-insert, else-not-is_null}

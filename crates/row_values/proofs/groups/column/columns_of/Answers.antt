@@ -1,7 +1,7 @@
 use Rattle.std.proofs.Common.{take, refl, sym, subst}
 use Rattle.std.specs.List.{AllZip}
+use Rattle.perm_values.proofs.Lists.{taken}
 use Rattle.row_values.proofs.Outcomes.{handed_on}
-use Rattle.row_values.proofs.Taken.{taken}
 use Rattle.row_values.specs.Columns.{IsColumn}
 use Rattle.row_values.proofs.ClassRows.{argument_refuses, zip-more}
 use Rattle.row_values.proofs.groups.column.columns_of.Goals as goal

@@ -1,7 +1,7 @@
 use Rattle.std.proofs.Common.{◌++◌, take, ap, ◌∙◌}
+use Rattle.perm_values.proofs.Lists.{taken}
 use Rattle.bag_algebra.specs.Outcome.{each, mapped}
 use Rattle.row_values.proofs.Outcomes.{passed, mapped_part, each_item}
-use Rattle.row_values.proofs.Taken.{taken}
 use Rattle.row_values.specs.Columns.{class_value}
 use Rattle.row_values.proofs.ClassRows.{row-more}
 use Rattle.row_values.proofs.groups.grouping.class_row.Goals as goal

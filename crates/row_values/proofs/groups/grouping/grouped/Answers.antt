@@ -1,7 +1,6 @@
-use Rattle.bag_algebra.specs.Meaning.{arguments_on}
+use Rattle.bag_algebra.specs.Meaning.{arguments_on, functions_of}
 use Rattle.bag_algebra.specs.Means.{class_row}
 use Rattle.row_values.proofs.Outcomes.{along, passed}
-use Rattle.row_values.specs.Columns.{functions_of}
 use Rattle.row_values.proofs.ClassRows.{grouped-is, grouped-refuses, makes_rows}
 use Rattle.row_values.proofs.Keys.{numbers_within}
 use Rattle.row_values.proofs.groups.grouping.grouped.Goals as goal

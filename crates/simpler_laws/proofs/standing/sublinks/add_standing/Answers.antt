@@ -1,10 +1,11 @@
 use Rattle.std.proofs.Common.{◌∷◌, ◌++◌, [], sym, subst}
 use Rattle.bag_algebra.specs.Rewriting.{Stands}
 use Rattle.query_laws.proofs.SameExpressions.{optional-itself}
+use Rattle.query_laws.proofs.StandingSublinks.{stand-more}
 use Rattle.query_laws.specs.SameExpressions.{SameOptional}
 use Rattle.query_laws.specs.Standing.{SubsStand}
+use Rattle.perm_values.proofs.Results.{appended}
 use Rattle.perm_values.proofs.Taken.{opened}
-use Rattle.simpler_laws.proofs.StandingParts.{appended, stand-more}
 use Rattle.simpler_laws.proofs.standing.sublinks.add_standing.Goals as goal
 
 pub returns : goal.returns

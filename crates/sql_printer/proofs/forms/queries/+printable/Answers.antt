@@ -1,7 +1,7 @@
 use Rattle.std.proofs.Common.{sym, subst}
 use Rattle.std.specs.List.{AllByRecursion}
+use Rattle.perm_values.proofs.Results.{when-ok}
 use Rattle.bag_algebra.specs.Inputs.{given}
-use Rattle.expression_texts.proofs.Pieces.{when-ok}
 use Rattle.sql_printer.specs.forms.Printable.{Printable, PrintableSub}
 use Rattle.sql_printer.proofs.forms.OpenedExpressions.{owed-here}
 use Rattle.sql_printer.proofs.forms.PrintableNodes.{printable-node}

@@ -1,7 +1,7 @@
 use Rattle.std.proofs.Common.{take, ap, ◌∙◌}
+use Rattle.perm_values.proofs.Lists.{taken}
 use Rattle.bag_algebra.specs.Outcome.{each}
 use Rattle.row_values.proofs.Outcomes.{passed, each_item, each_good}
-use Rattle.row_values.proofs.Taken.{taken}
 use Rattle.statement_meaning.specs.Turns.{row_value}
 use Rattle.statement_steps.proofs.changes.inserting.row_values.Goals as goal
 
