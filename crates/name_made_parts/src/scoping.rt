@@ -4,7 +4,8 @@ ghost use Rattle.name_meaning.specs.Scopes.{ScopeItem, scope_of};
 ghost use Rattle.name_made_parts.specs.Segments.{back_in, column_in, columns_in, name_in};
 ghost use Rattle.name_made_parts.specs.Sources.{StandsIn};
 
-use name_meaning::{NameList, Scope, ScopeColumn, ScopeColumns};
+use name_meaning::{Scope, ScopeColumn, ScopeColumns};
+use perm_catalog::NameList;
 use perm_values::{Chars, Copyable, NoMemory};
 use std::alloc::Global;
 

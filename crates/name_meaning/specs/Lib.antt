@@ -11,5 +11,4 @@ pub mod Scopes
 pub mod Statements
 pub mod Sublinks
 pub mod Trees
-pub mod sets
 pub mod laws

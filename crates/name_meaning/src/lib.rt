@@ -9,7 +9,6 @@ mod need;
 mod rule;
 mod scope;
 mod scope_columns;
-mod sets;
 
 pub use answer::{Break, Resolved};
 pub use columns::names_at;
@@ -24,4 +23,3 @@ pub use need::{Gives, Need};
 pub use rule::Rule;
 pub use scope::{Found, FoundColumn, Scope, ScopeColumn};
 pub use scope_columns::ScopeColumns;
-pub use sets::{NameList, Names};

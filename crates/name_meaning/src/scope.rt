@@ -1,5 +1,5 @@
 use crate::scope_columns::ScopeColumns;
-use crate::sets::NameList;
+use perm_catalog::NameList;
 use perm_values::{Chars, Kind, List};
 
 /// A column of an item in scope: the number of the item, from 0, and the column's name and kind.

@@ -13,9 +13,10 @@ ghost use Rattle.name_seen.specs.Joining.{JoinSeen};
 
 use crate::cores::condition_seen;
 use crate::queries::query_seen;
-use name_meaning::{Names, Scope};
+use name_meaning::Scope;
 use name_seen_cores::{Facts, Reading, put_item, read_named, read_shown};
 use name_seen_parts::{Around, Refusal, add_items, inside, is_lateral, no_items};
+use perm_catalog::Names;
 use sql_tree::{FromItem, FromSource, FromTree, JoinStep, QueryTree, ScopeMark};
 
 /// The scope of all items of FROM, whose rows aren't grouped, or its first break. The facts of what is read come behind

@@ -32,7 +32,7 @@ use Rattle.bag_algebra.proofs.Truths.{left-false, right-false}
 use Rattle.name_seen_parts.specs.Columns.{columns_of}
 use Rattle.name_seen_parts.specs.declared.clauses.column.ShownColumn.{ShownColumn}
 use Rattle.name_seen_parts.proofs.Firsts.{first-stays, flat-first}
-use Rattle.name_meaning.specs.sets.Named.{is_named}
+use Rattle.perm_catalog.specs.sets.Named.{is_named}
 use Rattle.name_statements.specs.Earlier.{column_break, is_defined, is_shown, texts_of}
 use Rattle.name_meaning.specs.declared.rule.Rule.TheVariants as rule
 

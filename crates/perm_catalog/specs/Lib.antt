@@ -4,3 +4,4 @@ pub mod Contents
 pub mod Lookups
 pub mod Sound
 pub mod Stored
+pub mod sets

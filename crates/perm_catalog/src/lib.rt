@@ -1,4 +1,4 @@
-//! The tables and views of a database by name, their rows, identities and versions.
+//! The tables and views of a database by name, their rows, identities and versions; and names that are looked up by hashing.
 #![tactic(auto)]
 
 mod catalog;
@@ -7,7 +7,9 @@ mod drop_held;
 mod entries;
 mod last;
 mod renew;
+mod sets;
 
 pub use catalog::{Catalog, CatalogRefusal};
 pub use column::Column;
 pub use entries::{Kept, Mark, TableEntry, ViewEntry};
+pub use sets::{NameList, Names};

@@ -11,8 +11,9 @@ ghost use Rattle.name_seen_cores.specs.from.Readings.{IsRead, ItemSeen, KeepsNam
 use crate::from::facts::Facts;
 use crate::from::marks::with_mark;
 use crate::from::reading::Reading;
-use name_meaning::{Names, Scope};
+use name_meaning::Scope;
 use name_seen_parts::{Around, Refusal, add_item, item_break, scope_name};
+use perm_catalog::Names;
 use perm_values::{Chars, NoMemory};
 use sql_tree::FromItem;
 use std::alloc::Global;

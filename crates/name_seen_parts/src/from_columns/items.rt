@@ -10,8 +10,8 @@ ghost use Rattle.perm_catalog.specs.Contents.{Contents};
 ghost use Rattle.name_seen_parts.specs.FromColumns.{known_names};
 
 use crate::from_columns::marks::mark_break;
-use name_meaning::{Break, Names, Rule};
-use perm_catalog::Column;
+use name_meaning::{Break, Rule};
+use perm_catalog::{Column, Names};
 use perm_values::{Chars, Copyable, NoMemory};
 use sql_tree::{FromItem, FromSource};
 use std::alloc::Global;

@@ -4,8 +4,8 @@ ghost use Rattle.name_meaning.specs.Froms.{table_columns};
 ghost use Rattle.name_meaning.specs.Scopes.{numbered_columns, scope_of};
 ghost use Rattle.name_seen_parts.specs.Scopes.{item_scope, moved_by, scope_beside};
 
-use name_meaning::{NameList, Scope, ScopeColumn, ScopeColumns};
-use perm_catalog::Column;
+use name_meaning::{Scope, ScopeColumn, ScopeColumns};
+use perm_catalog::{Column, NameList};
 use perm_values::{Chars, Copyable, NoMemory};
 use std::alloc::Global;
 

@@ -10,10 +10,10 @@ ghost use Rattle.name_meaning.specs.Statements as words;
 ghost use Rattle.perm_catalog.specs.Sound.{IsSound};
 
 use crate::seen::values::alone;
-use name_meaning::{NameList, Scope, ScopeColumn, ScopeColumns};
+use name_meaning::{Scope, ScopeColumn, ScopeColumns};
 use name_seen::kind_of;
 use name_seen_parts::{Here, Refusal, Scopes, condition_over, inside};
-use perm_catalog::{Catalog, Column, TableEntry};
+use perm_catalog::{Catalog, Column, NameList, TableEntry};
 use perm_values::{Chars, Copyable, NoMemory};
 use sql_tree::{ExprTree, Name};
 use std::alloc::Global;

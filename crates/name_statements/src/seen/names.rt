@@ -5,8 +5,8 @@ ghost use Rattle.name_seen_parts.specs.Seen.{first_or};
 ghost use Rattle.perm_catalog.specs.Changes.{is_free};
 ghost use Rattle.name_statements.specs.Earlier.{column_break, is_defined};
 
-use name_meaning::{Break, Names, Rule};
-use perm_catalog::Catalog;
+use name_meaning::{Break, Rule};
+use perm_catalog::{Catalog, Names};
 use perm_values::{Chars, NoMemory};
 use sql_tree::{ColumnDef, Name};
 use std::alloc::Global;

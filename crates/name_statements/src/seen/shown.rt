@@ -8,8 +8,9 @@ ghost use Rattle.name_seen_parts.specs.Seen.{first_or};
 ghost use Rattle.name_seen_parts.specs.Columns.{columns_of};
 ghost use Rattle.name_statements.specs.Earlier.{is_shown};
 
-use name_meaning::{Break, Names, Rule};
+use name_meaning::{Break, Rule};
 use name_seen_parts::ShownColumn;
+use perm_catalog::Names;
 use perm_values::{Kind, NoMemory};
 use std::alloc::Global;
 

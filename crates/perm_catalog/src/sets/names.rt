@@ -1,5 +1,5 @@
 ghost use Rattle.std.specs.Prelude.{◌≡◌, ◌∷◌, ◌++◌, [], true, not, IfOk};
-ghost use Rattle.name_meaning.specs.sets.Named.{is_named};
+ghost use Rattle.perm_catalog.specs.sets.Named.{is_named};
 
 use indexmap::IndexSet;
 use perm_values::{Chars, Copyable, NoMemory};

@@ -1,9 +1,9 @@
 use Rattle.std.specs.Prelude.{ℕ, not, List, [], ◌∷◌, ◌++◌, nat_eq}
 use Rattle.std.proofs.Common.{ap, ◌∙◌}
 use Rattle.std.specs.Cmp.Lexicographic.{pointwise}
-use Rattle.name_meaning.specs.sets.Named.{is_named}
-use Rattle.name_meaning.proofs.sets.Added.{pushed}
-use Rattle.name_meaning.proofs.sets.names.Names.add.Goals as goal
+use Rattle.perm_catalog.specs.sets.Named.{is_named}
+use Rattle.perm_catalog.proofs.sets.Added.{pushed}
+use Rattle.perm_catalog.proofs.sets.names.Names.add.Goals as goal
 
 pub returns-clause-tells : goal.returns-clause-tells
 returns-clause-tells c =
