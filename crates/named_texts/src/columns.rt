@@ -1,5 +1,5 @@
 //! The columns that an expression sees.
-use expression_texts::Draft;
+use tree_texts::Draft;
 use perm_values::{Bytes, Chars, List, NoMemory};
 use std::alloc::Global;
 

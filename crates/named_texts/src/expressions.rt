@@ -2,7 +2,7 @@
 use crate::columns::{Seen, column_at};
 use crate::words::push_spelling;
 use bag_algebra::{Arm, ChainStep, Expr};
-use expression_texts::{Draft, push_expr};
+use tree_texts::{Draft, push_expr};
 use null_logic::{Operator, Truth};
 use perm_values::{Bytes, NoMemory};
 

@@ -4,7 +4,7 @@ use crate::columns::{Column, Seen, column_at};
 use crate::expressions::push_bare;
 use crate::words::{aggregate_name, aggregate_words};
 use bag_algebra::{AggFn, Aggr, Expr, Item};
-use expression_texts::Draft;
+use tree_texts::Draft;
 use perm_values::{Bytes, Copyable, List, NoMemory};
 use std::alloc::Global;
 

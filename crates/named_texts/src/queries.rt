@@ -11,7 +11,7 @@ use crate::sources::{
 };
 use crate::sublinks::push_asking;
 use bag_algebra::{Aggr, Answer, Item, JoinKind, Query, SubKind, Sublink};
-use expression_texts::Draft;
+use tree_texts::Draft;
 use perm_values::{Bytes, List, NoMemory};
 use query_texts::{TableNames, push_limit, push_ordered, push_set};
 use std::alloc::Global;

@@ -4,7 +4,7 @@ use crate::expressions::push_bare;
 use crate::names::Names;
 use crate::words::join_words;
 use bag_algebra::{Expr, JoinKind, Query};
-use expression_texts::Draft;
+use tree_texts::Draft;
 use perm_values::{Bytes, List, NoMemory, Value};
 use std::alloc::Global;
 

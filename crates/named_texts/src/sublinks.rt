@@ -2,7 +2,7 @@
 use crate::columns::Seen;
 use crate::expressions::push_part;
 use bag_algebra::{Expr, SubKind};
-use expression_texts::Draft;
+use tree_texts::Draft;
 use perm_values::NoMemory;
 use query_texts::{all_text, any_text};
 

@@ -1,6 +1,6 @@
 //! Words of SQL, each with a blank behind it.
 use bag_algebra::{AggFn, JoinKind};
-use expression_texts::Draft;
+use tree_texts::Draft;
 use perm_values::NoMemory;
 
 /// Writes an operator.

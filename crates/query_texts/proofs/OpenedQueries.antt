@@ -19,8 +19,8 @@ use Rattle.query_texts.specs.clauses.Chains.{is_chained}
 use Rattle.query_texts.specs.clauses.ClauseTexts.{asked_back, asking_text, beside_joined, beside_lateral, columns_text, condition_text, groups_text, limited_text, projecting_text, set_text, table_text, unread_text, where_text}
 use Rattle.query_texts.specs.clauses.Names.{Naming, deeper, naming, names_of, own}
 use Rattle.query_texts.specs.declared.clauses.tables.TableNames.{TableNames}
-use Rattle.expression_texts.proofs.Pieces.{laid2, laid3}
-use Rattle.expression_texts.specs.Words.{is_any}
+use Rattle.tree_texts.proofs.Pieces.{laid2, laid3}
+use Rattle.tree_texts.specs.expressions.Words.{is_any}
 use Rattle.query_texts.specs.QueryTexts.{apart_unless, query_bytes, select, sub_text, sub_texts, subs_texts, written}
 use Rattle.query_texts.specs.built.Parts.{block_part, select_part}
 use Rattle.query_texts.proofs.Shaped.{apart_whole}

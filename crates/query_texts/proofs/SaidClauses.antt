@@ -10,10 +10,10 @@ use Rattle.tree_texts.specs.Phrases.{direction, key, more_keys, ordered, grouped
 use Rattle.query_texts.specs.clauses.Names.{outermost}
 use Rattle.query_texts.specs.forms.ShownExpressions.{never, never_arms, beside}
 use Rattle.query_texts.specs.forms.ShownQueries.{own_column, own_columns, key_form, called_from}
-use Rattle.expression_texts.specs.ExpressionTexts.{arms_text}
+use Rattle.tree_texts.specs.expressions.ExpressionTexts.{arms_text}
 use Rattle.query_texts.specs.forms.Pieces.{said, expr_said}
 use Rattle.query_texts.specs.clauses.ClauseTexts.{comma, grouped_column, grouped_text, direction_text, key_text, key_texts, ordered_text, called_items, nevers_text, beside_text}
-use Rattle.expression_texts.specs.Words.{name_text, number_text, null_text, reference_text, unless_none}
+use Rattle.tree_texts.specs.expressions.Words.{name_text, number_text, null_text, reference_text, unless_none}
 use Rattle.query_texts.proofs.SaidExpressions.{arm_said, cases_said}
 use Rattle.query_texts.proofs.SaidLists.{comma_next}
 use Rattle.query_texts.proofs.SaidOperators.{null_said}

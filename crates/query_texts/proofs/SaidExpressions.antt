@@ -10,9 +10,9 @@ use Rattle.bag_algebra.specs.declared.expr.Expr.TheVariants.{Col, Lit, Sub}
 use Rattle.tree_texts.specs.FormPlans as plan
 use Rattle.tree_texts.specs.Forms.{ExprForm}
 use Rattle.query_texts.specs.forms.ShownExpressions.{StepForm, ArmForm, chained, chain_of, terms, factors, cases, arms_of, truth_tested, unsaid, shown_expr, shown_parts, shown_steps, shown_arms}
-use Rattle.expression_texts.specs.ExpressionTexts.{StepText, ArmText, chained_text, steps_text, cases_text, arm_text, arms_text, operated_text, truth_front, truth_back, expr_bytes, part_texts, step_texts, arm_texts}
+use Rattle.tree_texts.specs.expressions.ExpressionTexts.{StepText, ArmText, chained_text, steps_text, cases_text, arm_text, arms_text, operated_text, truth_front, truth_back, expr_bytes, part_texts, step_texts, arm_texts}
 use Rattle.query_texts.specs.forms.Pieces.{said, expr_said}
-use Rattle.expression_texts.specs.Words.{unsaid_text}
+use Rattle.tree_texts.specs.expressions.Words.{unsaid_text}
 use Rattle.query_texts.proofs.SaidOperators.{additive_said, multiplicative_said, literal_said, operated_said}
 
 abbrev pub step_said : StepForm → StepText

@@ -14,7 +14,7 @@ use Rattle.query_texts.specs.clauses.Names.{Naming, own}
 use Rattle.query_texts.specs.forms.ShownQueries.{own_column, Listed, listed, named_from, aggregated, aggregates_from, argument, arguments, grouped_columns as group_forms}
 use Rattle.query_texts.specs.forms.Pieces.{said, expr_said}
 use Rattle.query_texts.specs.clauses.ClauseTexts.{comma, item_text, unread_text, column_item, named_items, group_items, argument_text, argument_items, aggregated_text, aggregate_items}
-use Rattle.expression_texts.specs.Words.{name_text, reference_text}
+use Rattle.tree_texts.specs.expressions.Words.{name_text, reference_text}
 use Rattle.query_texts.proofs.SaidExpressions.{expression_said}
 
 -- ---- items

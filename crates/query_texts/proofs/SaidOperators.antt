@@ -18,9 +18,9 @@ use Rattle.tree_texts.specs.Forms as f
 use Rattle.tree_texts.specs.Forms.{ExprForm, enclosed}
 use Rattle.tree_texts.specs.Phrases.{comparison, additive, multiplicative}
 use Rattle.query_texts.specs.forms.ShownExpressions.{literal, signed, least, others, operated, additive_of, multiplicative_of}
-use Rattle.expression_texts.specs.ExpressionTexts.{operated_text}
+use Rattle.tree_texts.specs.expressions.ExpressionTexts.{operated_text}
 use Rattle.query_texts.specs.forms.Pieces.{said, expr_said}
-use Rattle.expression_texts.specs.Words.{literal_text, signed_text, number_text, null_text, compare_text, additive_word, multiplicative_word, separated}
+use Rattle.tree_texts.specs.expressions.Words.{literal_text, signed_text, number_text, null_text, compare_text, additive_word, multiplicative_word, separated}
 
 pub compare_said : (c : Compare) → said (comparison c) ≡ compare_text c
 compare_said compare.Equal = refl

@@ -33,7 +33,7 @@ use Rattle.query_texts.specs.clauses.Unused.{used_in, items_use, spare}
 use Rattle.query_texts.specs.declared.clauses.tables.TableNames.{TableNames}
 use Rattle.query_texts.specs.forms.Pieces.{said, expr_said, query_said}
 use Rattle.query_texts.specs.clauses.ClauseTexts.{as_text, item_text, unread_text, columns_text, named_items, over_text, table_text, beside_text, beside_joined, beside_lateral, source_text, condition_text, where_text, expr_items, projected_text, projecting_text, set_text, below_text, groups_text, any_text, all_text, part_text, asked_text, ordered_text, called_items}
-use Rattle.expression_texts.specs.Words.{is_any, name_text, number_text, reference_text}
+use Rattle.tree_texts.specs.expressions.Words.{is_any, name_text, number_text, reference_text}
 use Rattle.query_texts.proofs.SaidClauses.{beside_said, grouped_said, order_said, called_said}
 use Rattle.query_texts.proofs.SaidExpressions.{expression_said}
 use Rattle.query_texts.proofs.SaidLists.{list_said, items_said, listed_said, items_append, one_said, columns_length, columns_said, names_said, groups_said, arguments_said, aggregates_said}

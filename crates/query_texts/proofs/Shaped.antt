@@ -9,7 +9,7 @@ use Rattle.query_texts.specs.clauses.Chains.{is_chained}
 use Rattle.query_texts.specs.clauses.ClauseTexts.{columns_text, over_text}
 use Rattle.query_texts.specs.clauses.Names.{Naming, own}
 use Rattle.query_texts.specs.declared.clauses.tables.TableNames.{TableNames}
-use Rattle.expression_texts.specs.Words.{is_any}
+use Rattle.tree_texts.specs.expressions.Words.{is_any}
 use Rattle.query_texts.specs.QueryTexts.{Written, a_block, apart_unless, written}
 use Rattle.query_texts.specs.built.Parts.{block_part, over_bytes, select_part}
 use Rattle.query_texts.specs.built.Shapes.{is_block, is_chain, is_select}

@@ -11,7 +11,7 @@ use Rattle.query_texts.specs.clauses.Chains.{is_chained}
 use Rattle.query_texts.specs.clauses.ClauseTexts.{asked_text, beside_joined, beside_lateral, called_items, columns_text, condition_text, groups_text, limited_text, ordered_text, over_text, projecting_text, set_text, table_text, unread_text, where_text}
 use Rattle.query_texts.specs.clauses.Names.{Naming, deeper, naming, names_of, outermost, own}
 use Rattle.query_texts.specs.declared.clauses.tables.TableNames.{TableNames}
-use Rattle.expression_texts.specs.Words.{is_any}
+use Rattle.tree_texts.specs.expressions.Words.{is_any}
 
 -- what a query is written as
 pub record Written : Type 0 where

@@ -1,14 +1,14 @@
 //! Writes what the texts of queries are made of: SELECT lists, conditions, joins, groups and keys.
 //! Writes the expressions of a node, and beside them the sublinks that they don't use: each of these may fault all the same.
 ghost use Rattle.std.specs.Prelude.{◌≡◌, ◌++◌, [], ◌∷◌, cond, IfOk, OnOk};
-ghost use Rattle.expression_texts.specs.ExpressionTexts.{expr_bytes};
+ghost use Rattle.tree_texts.specs.expressions.ExpressionTexts.{expr_bytes};
 ghost use Rattle.query_texts.specs.clauses.Frames.{called_in};
 ghost use Rattle.query_texts.specs.clauses.ClauseTexts.{beside_back, beside_front, beside_text, condition_text, expr_items, item_text, never_text, nevers_text, projected_text, projecting_text, where_text};
 ghost use Rattle.query_texts.specs.clauses.Unused.{items_use, spare, used_in};
 
 use crate::clauses::lists::{push_as, push_comma};
 use bag_algebra::{Expr, Item};
-use expression_texts::{Draft, push_expr, uses};
+use tree_texts::{Draft, push_expr, uses};
 use perm_values::{Bytes, Copyable, Kind, List, NoMemory};
 use std::alloc::Global;
 

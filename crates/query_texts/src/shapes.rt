@@ -2,7 +2,7 @@
 ghost use Rattle.std.specs.Prelude.{◌≡◌, ◌&&◌};
 ghost use Rattle.bag_algebra.specs.Kinds.{width_of};
 ghost use Rattle.query_texts.specs.clauses.Chains.{is_chained};
-ghost use Rattle.expression_texts.specs.Words.{is_any};
+ghost use Rattle.tree_texts.specs.expressions.Words.{is_any};
 ghost use Rattle.query_texts.specs.built.Shapes.{is_block, is_chain, is_select};
 
 use bag_algebra::{JoinKind, Query, width};

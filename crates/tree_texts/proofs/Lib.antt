@@ -1,7 +1,11 @@
+pub mod Counted
 pub mod FormTexts
 pub mod FormTrees
 pub mod FormsSound
 pub mod Levels
+pub mod Opened
+pub mod OpenedUses
+pub mod Pieces
 pub mod Planned
 pub mod Shown
 pub mod Standing

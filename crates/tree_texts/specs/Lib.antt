@@ -8,3 +8,4 @@ pub mod Texts
 pub mod Trees
 pub mod plans
 pub mod layout
+pub mod expressions

@@ -1,7 +1,7 @@
 -- What a SELECT list is of no item, and of a first item and others.
 use Rattle.std.proofs.Common.{◌≡◌, ℕ, ◌<◌, ◌≤◌, List, [], ◌∷◌, ◌++◌, length, get_or, drop, refl, ap, arith}
 use Rattle.bag_algebra.specs.declared.expr.Item.{Item}
-use Rattle.expression_texts.specs.ExpressionTexts.{expr_bytes}
+use Rattle.tree_texts.specs.expressions.ExpressionTexts.{expr_bytes}
 use Rattle.query_texts.specs.clauses.Names.{Naming}
 use Rattle.query_texts.specs.clauses.ClauseTexts.{as_text, beside_text, expr_items, projected_text}
 

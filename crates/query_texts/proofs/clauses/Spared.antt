@@ -1,6 +1,6 @@
 -- The sublinks that aren't used, one after another.
 use Rattle.std.proofs.Common.{◌≡◌, ◌∙◌, ℕ, ◌+◌, ◌<◌, Bool, true, false, cond, List, [], ◌∷◌, ◌++◌, length, get_or, drop, refl, ap}
-use Rattle.expression_texts.proofs.Pieces.{rest_next}
+use Rattle.tree_texts.proofs.Pieces.{rest_next}
 use Rattle.query_texts.specs.clauses.Unused.{spare}
 
 spare_step : {X : Type 0} (used : Bool) (x : X) (rest : List X) → cond used rest (x ∷ rest) ≡ cond used [] (x ∷ []) ++ rest

@@ -5,7 +5,7 @@ use Rattle.bag_algebra.specs.built.Patterns.{BaseOf, FilterOf, ProjectOf, JoinOf
 use Rattle.bag_algebra.specs.declared.query.Query.{Query}
 use Rattle.bag_algebra.specs.declared.query.Query.TheVariants.{Table, Single}
 use Rattle.query_texts.specs.clauses.Chains.{is_chained}
-use Rattle.expression_texts.specs.Words.{is_any}
+use Rattle.tree_texts.specs.expressions.Words.{is_any}
 
 -- one SELECT without groups that gives the columns, so that DISTINCT may stand in it
 abbrev pub is_select : Query → Bool

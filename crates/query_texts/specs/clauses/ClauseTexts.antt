@@ -19,8 +19,8 @@ use Rattle.query_texts.specs.clauses.Keys.{all_keys}
 use Rattle.query_texts.specs.clauses.Names.{Naming, own, source_prefix, outermost}
 use Rattle.query_texts.specs.clauses.Unused.{used_in, items_use, spare}
 use Rattle.query_texts.specs.declared.clauses.tables.TableNames.{TableNames}
-use Rattle.expression_texts.specs.ExpressionTexts.{expr_bytes}
-use Rattle.expression_texts.specs.Words.{name_text, number_text, reference_text, null_text, unsaid_text, unless_none}
+use Rattle.tree_texts.specs.expressions.ExpressionTexts.{expr_bytes}
+use Rattle.tree_texts.specs.expressions.Words.{name_text, number_text, reference_text, null_text, unsaid_text, unless_none}
 
 -- ---- SELECT lists
 

@@ -1,6 +1,6 @@
 -- How the columns that a query gives are called, and what tables are called.
 use Rattle.std.specs.Prelude.{ℕ, Bool, List, [], ◌∷◌, ◌==◌, Option, find, unwrap_or}
-use Rattle.expression_texts.specs.Names.{column_name}
+use Rattle.tree_texts.specs.expressions.Names.{column_name}
 use Rattle.query_texts.specs.declared.clauses.tables.TableNames.{TableNames}
 
 -- what the columns of a query begin with that stands in no other

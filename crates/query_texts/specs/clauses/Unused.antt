@@ -3,7 +3,7 @@ use Rattle.std.specs.Prelude.{ℕ, ◌+◌, Bool, cond, List, [], ◌∷◌}
 use Rattle.std.specs.List.{list_any}
 use Rattle.bag_algebra.specs.declared.expr.Expr.{Expr}
 use Rattle.bag_algebra.specs.declared.expr.Item.{Item}
-use Rattle.expression_texts.specs.Uses.{uses}
+use Rattle.tree_texts.specs.expressions.Uses.{uses}
 
 abbrev pub used_in : Expr → ℕ → Bool
 used_in e number = uses number e

@@ -21,11 +21,11 @@ use Rattle.bag_algebra.specs.declared.query.SubKind.{SubKind}
 use Rattle.bag_algebra.specs.declared.query.SubKind.TheVariants as ask
 use Rattle.tree_texts.specs.Forms as f
 use Rattle.tree_texts.specs.Forms.{ExprForm, ItemForms, SourceForm, JoinForms, FromForm, ConditionForm, ColumnForm, CoreForm, QueryForm, KeyForm, Joined, enclosed}
-use Rattle.expression_texts.specs.Names.{column_name}
+use Rattle.tree_texts.specs.expressions.Names.{column_name}
 use Rattle.query_texts.specs.clauses.Chains.{is_chained}
 use Rattle.query_texts.specs.clauses.Keys.{all_keys}
 use Rattle.query_texts.specs.clauses.Names.{Naming, naming, own, unread, outermost, deeper, names_of, source_prefix}
-use Rattle.expression_texts.specs.Words.{is_any}
+use Rattle.tree_texts.specs.expressions.Words.{is_any}
 use Rattle.query_texts.specs.forms.ShownExpressions.{shown_expr, unsaid, beside}
 use Rattle.query_texts.specs.clauses.Unused.{used_in, items_use, spare}
 use Rattle.query_texts.specs.declared.clauses.tables.TableNames.{TableNames}

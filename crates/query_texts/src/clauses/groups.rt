@@ -3,12 +3,12 @@ ghost use Rattle.std.specs.Prelude.{◌≡◌, ◌+◌, ◌++◌, OnOk};
 ghost use Rattle.query_texts.specs.clauses.Frames.{called_in};
 ghost use Rattle.query_texts.specs.clauses.Names.{own};
 ghost use Rattle.query_texts.specs.clauses.ClauseTexts.{above_text, aggregate_items, aggregated_text, argument_items, argument_text, below_text, folded_text, group_items, grouped_column, grouped_columns, grouped_text, item_text};
-ghost use Rattle.expression_texts.specs.Words.{reference_text};
+ghost use Rattle.tree_texts.specs.expressions.Words.{reference_text};
 
 use crate::clauses::frame::Frame;
 use crate::clauses::lists::{push_as, push_column_items, push_comma, push_unread};
 use bag_algebra::{AggFn, Aggr, Expr};
-use expression_texts::{Draft, behind, push_expr};
+use tree_texts::{Draft, behind, push_expr};
 use perm_values::NoMemory;
 
 fn push_grouped_column(prefix: &[u8], number: usize, draft: &mut Draft) -> Result<(), NoMemory>

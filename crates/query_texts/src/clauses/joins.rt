@@ -4,7 +4,7 @@ ghost use Rattle.query_texts.specs.clauses.ClauseTexts.{lateral_on, set_text, so
 
 use crate::clauses::words::lateral_on;
 use bag_algebra::JoinKind;
-use expression_texts::Draft;
+use tree_texts::Draft;
 use perm_values::NoMemory;
 
 /// What ends the source whose columns begin with a number: its name.

@@ -4,12 +4,12 @@ ghost use Rattle.query_texts.specs.clauses.Frames.{called_in};
 ghost use Rattle.query_texts.specs.clauses.Keys.{all_keys, is_key, unless_key};
 ghost use Rattle.query_texts.specs.clauses.Names.{names_of, naming};
 ghost use Rattle.query_texts.specs.clauses.ClauseTexts.{as_text, called_item, called_items, column_item, column_items, columns_text, comma, item_text, key_text, key_texts, limited_text, listed_text, named_items, order_text, ordered_text, table_text, unread_text};
-ghost use Rattle.expression_texts.specs.Words.{name_text};
+ghost use Rattle.tree_texts.specs.expressions.Words.{name_text};
 
 use crate::clauses::frame::Frame;
 use crate::clauses::tables::table_of;
 use crate::clauses::words::direction_text;
-use expression_texts::{Draft, behind};
+use tree_texts::{Draft, behind};
 use perm_values::{Chars, Key, List, NoMemory};
 use std::alloc::Global;
 

@@ -4,7 +4,7 @@ ghost use Rattle.query_texts.specs.clauses.ClauseTexts.{asking_text, part_text, 
 
 use crate::clauses::words::{all_text, any_text};
 use bag_algebra::{Expr, SubKind};
-use expression_texts::{Draft, push_expr};
+use tree_texts::{Draft, push_expr};
 use perm_values::NoMemory;
 
 fn push_part(prefix: &[u8], tested: &Option<Expr>, draft: &mut Draft) -> Result<(), NoMemory>

@@ -29,7 +29,7 @@ use Rattle.query_texts.specs.clauses.Keys.{all_keys}
 use Rattle.query_texts.specs.clauses.Names.{deeper, names_of, naming, own as own_naming}
 use Rattle.query_texts.specs.clauses.Unused.{items_use, spare}
 use Rattle.query_texts.specs.declared.clauses.tables.TableNames.{TableNames}
-use Rattle.expression_texts.specs.Words.{is_any}
+use Rattle.tree_texts.specs.expressions.Words.{is_any}
 use Rattle.query_texts.specs.forms.ShownQueries as writing
 use Rattle.query_texts.specs.forms.ShownQueries.{Framed, framed, joined, joined_to, listed, of_table, one, projected, selected, shown, source_name, sources, sub_forms, tested_by, tested_part}
 use Rattle.sql_printer.specs.rows.Printed as printing

@@ -30,7 +30,7 @@ use Rattle.tree_texts.specs.Forms.{ConditionForm, CoreForm, ExprForm, QueryForm}
 use Rattle.tree_texts.specs.Trees.{AreItems, AreSources, IsCondition, IsCore, IsExpr, IsItem, IsQuery, condition_tree, no_condition_tree}
 use Rattle.query_texts.specs.clauses.Names.{Naming, naming, own as own_naming}
 use Rattle.query_texts.specs.clauses.Unused.{items_use, spare}
-use Rattle.expression_texts.specs.Words.{is_any}
+use Rattle.tree_texts.specs.expressions.Words.{is_any}
 use Rattle.query_texts.specs.forms.ShownQueries as writing
 use Rattle.query_texts.specs.forms.ShownQueries.{Chain, Framed, Listed, alone, copied, joined, joined_to, just, projected, selected, source_name, sources, stays, tested_by}
 use Rattle.sql_printer.specs.rows.Printed as printing

@@ -32,7 +32,7 @@ use Rattle.tree_texts.specs.Forms.{ExprForm, JoinForms, QueryForm}
 use Rattle.tree_texts.specs.Trees as tree
 use Rattle.tree_texts.specs.Trees.{AreJoins, AreSources, IsExpr, IsQuery, IsSource, a_join_tree, a_lateral_tree, no_join_trees, source_trees, subquery_tree}
 use Rattle.query_texts.specs.clauses.Names.{source_prefix}
-use Rattle.expression_texts.specs.Words.{is_any}
+use Rattle.tree_texts.specs.expressions.Words.{is_any}
 use Rattle.query_texts.specs.forms.ShownQueries.{Chain, joined, joined_to, just, source_name, sources, stays, then_joins}
 use Rattle.sql_printer.specs.rows.Printed.{lateral_kind, unread_of}
 use Rattle.sql_printer.proofs.rows.ShownRows.{shown_kinds}

@@ -27,7 +27,7 @@ use Rattle.name_meaning.specs.declared.need.Need.{Need}
 use Rattle.name_meaning.specs.declared.need.Need.TheVariants.{OfKind as of_kind}
 use Rattle.name_meaning.specs.declared.rule.Rule.TheVariants as rule
 use Rattle.name_meaning.specs.declared.scope.Found.TheVariants.{Column as found}
-use Rattle.expression_texts.specs.Names.{column_name}
+use Rattle.tree_texts.specs.expressions.Names.{column_name}
 use Rattle.tree_texts.specs.Forms as f
 use Rattle.tree_texts.specs.Forms.{ExprForm}
 use Rattle.tree_texts.specs.Trees.{IsExpr, bare_tree, column_tree, integer_tree, null_tree, text_tree, truth_tree}

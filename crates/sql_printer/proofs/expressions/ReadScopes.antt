@@ -11,7 +11,7 @@ use Rattle.std.proofs.lemmas.Fmt.{decimal_injective, decimal_is_IsNumeral}
 use Rattle.perm_values.specs.declared.kind.Kind.{Kind}
 use Rattle.bag_algebra.specs.WellFormed.{column_kind}
 use Rattle.sql_tree.specs.declared.name.ColRef.{ColRef}
-use Rattle.expression_texts.specs.Names.{column_name}
+use Rattle.tree_texts.specs.expressions.Names.{column_name}
 use Rattle.sql_printer.specs.rows.PrintedExpressions.{before}
 use Rattle.sql_printer.proofs.rows.AskedNumbers.{get-below}
 use Rattle.name_meaning.specs.Scopes.{Placed, columns_meant_by, found_among, if_some, is_called, look_up, meant_by, meant_in, place_among}

@@ -25,7 +25,7 @@ use Rattle.bag_algebra.specs.declared.query.SubKind.TheVariants as ask
 use Rattle.tree_texts.specs.Fits.{FitsArms, FitsExpr, FitsExprs, FitsFactors, FitsQuery, FitsTerms}
 use Rattle.tree_texts.specs.Forms as f
 use Rattle.tree_texts.specs.Forms.{ExprForm, QueryForm, enclosed}
-use Rattle.expression_texts.specs.Names.{column_name}
+use Rattle.tree_texts.specs.expressions.Names.{column_name}
 use Rattle.query_texts.specs.forms.ShownExpressions.{ArmForm, StepForm, arms_of, beside, cases, chain_of, chained, factors, least, literal, never_arms, operated, others, shown_arms, shown_expr, shown_parts, shown_steps, signed, terms, truth_tested, unsaid}
 use Rattle.query_texts.specs.forms.ShownQueries.{asked, tested_part}
 use Rattle.sql_printer.specs.rows.Writable.{Writable, WritableArms, WritableOption, WritableParts, WritableSteps, WritableValue}

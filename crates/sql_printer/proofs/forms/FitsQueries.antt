@@ -28,7 +28,7 @@ use Rattle.query_texts.specs.clauses.Keys.{all_keys}
 use Rattle.query_texts.specs.clauses.Names.{Naming, deeper, has_id, names_of, nameless, naming, outermost, own, source_prefix}
 use Rattle.query_texts.specs.clauses.Unused.{items_use, spare, used_in}
 use Rattle.query_texts.specs.declared.clauses.tables.TableNames.{TableNames}
-use Rattle.expression_texts.specs.Words.{is_any}
+use Rattle.tree_texts.specs.expressions.Words.{is_any}
 use Rattle.query_texts.specs.forms.ShownExpressions.{beside, shown_expr}
 use Rattle.query_texts.specs.forms.ShownQueries.{Chain, Framed, Listed, a_block, a_select, a_whole, aggregated, aggregates_from, alone, argument, arguments, apart_unless, below_groups, called, called_from, columns, copied, framed, grouped_columns, in_groups, joined, joined_to, just, key_form, listed, named_from, of_table, one, own_column, projected, selected, shown, shown_answer, source_name, sources, stays, sub_forms, tested_by, tested_part, then_joins}
 use Rattle.sql_printer.specs.rows.Writable.{Writable, WritableAggregates, WritableItems, WritableOption}

@@ -13,7 +13,7 @@ use Rattle.bag_algebra.specs.declared.expr.Expr.{Expr, Row_of-Expr, Row_of-Arm, 
 use Rattle.bag_algebra.specs.declared.expr.Expr.TheVariants.{Col, Lit, Sub}
 use Rattle.bag_algebra.proofs.BagLaws.{any-append}
 use Rattle.bag_algebra.proofs.Truths.{or_associates, or_false, or_true}
-use Rattle.expression_texts.specs.Uses.{uses, parts_use, steps_use, arms_use}
+use Rattle.tree_texts.specs.expressions.Uses.{uses, parts_use, steps_use, arms_use}
 use Rattle.query_texts.specs.clauses.Unused.{spare}
 use Rattle.sql_printer.specs.rows.PrintedExpressions.{asked_in, asked_in_parts, asked_in_steps, asked_in_arms}
 

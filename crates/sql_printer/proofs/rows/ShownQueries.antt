@@ -32,7 +32,7 @@ use Rattle.sql_printer.specs.rows.Writable.{WritableOption, WritableQuery, Writa
 use Rattle.query_texts.specs.clauses.Chains.{is_chained}
 use Rattle.query_texts.specs.clauses.Keys.{all_keys}
 use Rattle.query_texts.specs.clauses.Unused.{items_use}
-use Rattle.expression_texts.specs.Words.{is_any}
+use Rattle.tree_texts.specs.expressions.Words.{is_any}
 use Rattle.sql_printer.proofs.rows.AskedNumbers.{get-below}
 use Rattle.sql_printer.proofs.rows.ReadSublinks.{answers_of, value-alone, condition-read, items-marked, items-wide}
 use Rattle.sql_printer.proofs.rows.RelatedOutcomes.{Along, AlikeOutcomes, alike-both_then}

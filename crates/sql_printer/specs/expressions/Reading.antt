@@ -13,7 +13,7 @@ use Rattle.name_meaning.specs.Scopes.{look_up}
 use Rattle.name_meaning.specs.Trees.{part_of}
 use Rattle.name_meaning.specs.declared.scope.Found.TheVariants.{Column as found}
 use Rattle.name_meaning.specs.declared.scope.Scope.{Scope}
-use Rattle.expression_texts.specs.Names.{column_name}
+use Rattle.tree_texts.specs.expressions.Names.{column_name}
 use Rattle.tree_texts.specs.Forms.{ExprForm}
 use Rattle.tree_texts.specs.Trees.{IsExpr}
 use Rattle.query_texts.specs.forms.ShownExpressions.{unsaid}

@@ -1,7 +1,7 @@
 use Rattle.std.proofs.Common.{◌+◌, refl}
 use Rattle.bag_algebra.specs.declared.expr.Item.{Item}
-use Rattle.expression_texts.specs.ExpressionTexts.{expr_bytes}
-use Rattle.expression_texts.proofs.Pieces.{rest_next, rest_end}
+use Rattle.tree_texts.specs.expressions.ExpressionTexts.{expr_bytes}
+use Rattle.tree_texts.proofs.Pieces.{rest_next, rest_end}
 use Rattle.query_texts.specs.clauses.Frames.{called_in}
 use Rattle.query_texts.specs.clauses.ClauseTexts.{expr_items, item_text}
 use Rattle.query_texts.proofs.clauses.push_expr_items.Goals as goal

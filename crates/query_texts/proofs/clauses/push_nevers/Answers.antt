@@ -1,5 +1,5 @@
 use Rattle.std.proofs.Common.{refl}
-use Rattle.expression_texts.proofs.Pieces.{rest_next, rest_end}
+use Rattle.tree_texts.proofs.Pieces.{rest_next, rest_end}
 use Rattle.query_texts.specs.clauses.ClauseTexts.{never_text, nevers_text}
 use Rattle.query_texts.proofs.clauses.push_nevers.Goals as goal
 

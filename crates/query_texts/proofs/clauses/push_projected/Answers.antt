@@ -1,8 +1,8 @@
 use Rattle.std.proofs.Common.{◌∙◌, ◌++◌, ap, drop}
 use Rattle.std.proofs.lemmas.List.{take_rest}
 use Rattle.perm_values.proofs.Results.{when-ok}
-use Rattle.expression_texts.specs.ExpressionTexts.{expr_bytes}
-use Rattle.expression_texts.proofs.Pieces.{laid3}
+use Rattle.tree_texts.specs.expressions.ExpressionTexts.{expr_bytes}
+use Rattle.tree_texts.proofs.Pieces.{laid3}
 use Rattle.query_texts.specs.clauses.Frames.{called_in}
 use Rattle.query_texts.specs.clauses.ClauseTexts.{as_text, beside_text, expr_items}
 use Rattle.query_texts.proofs.clauses.Projected.{projected_none, projected_some}

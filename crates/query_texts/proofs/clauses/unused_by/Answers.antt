@@ -1,5 +1,5 @@
 use Rattle.std.proofs.Common.{refl}
-use Rattle.expression_texts.proofs.Pieces.{rest_end}
+use Rattle.tree_texts.proofs.Pieces.{rest_end}
 use Rattle.query_texts.specs.clauses.Unused.{spare, used_in}
 use Rattle.query_texts.proofs.clauses.Spared.{spare_next}
 use Rattle.query_texts.proofs.clauses.unused_by.Goals as goal

@@ -8,7 +8,7 @@ use Rattle.bag_algebra.specs.declared.query.Query.TheVariants.{Aggregate, Apply,
 use Rattle.query_texts.specs.clauses.ClauseTexts.{above_text, below_text, columns_text, grouped_text, join_text, lateral_on, lateral_text, source_text}
 use Rattle.query_texts.specs.clauses.Frames.{called_in}
 use Rattle.query_texts.specs.clauses.Names.{deeper, naming}
-use Rattle.expression_texts.proofs.Pieces.{laid2, laid3, laid4, laid6, mapped_next}
+use Rattle.tree_texts.proofs.Pieces.{laid2, laid3, laid4, laid6, mapped_next}
 use Rattle.query_texts.specs.QueryTexts.{query_bytes, sub_text, subs_texts, written}
 use Rattle.query_texts.specs.built.Parts.{block_part, over_bytes, select_part}
 use Rattle.query_texts.proofs.OpenedQueries.{aggregate_pushed, all_part, apply_all, apply_pushed, apply_selected, base_pushed, distinct_pushed, except_text, filter_all, filter_pushed, filter_selected, intersect_text, join_all, join_pushed, join_selected, limit_pushed, no_block, no_part, project_pushed, project_selected, prov_pushed, select_pushed, set_pushed, single_part, sub_joined, table_part, union_text}

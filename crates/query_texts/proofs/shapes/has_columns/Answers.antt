@@ -1,7 +1,7 @@
 use Rattle.std.proofs.Common.{◌≡◌, ◌∙◌, ◌^◌, ◌-◌, ◌<◌, ℕ, zero, suc, true, min, refl, ap, arith}
 use Rattle.bag_algebra.specs.Kinds.{width_of}
-use Rattle.expression_texts.specs.Words.{is_any}
-use Rattle.expression_texts.proofs.Counted.{any-is}
+use Rattle.tree_texts.specs.expressions.Words.{is_any}
+use Rattle.tree_texts.proofs.Counted.{any-is}
 use Rattle.query_texts.proofs.shapes.has_columns.Goals as goal
 
 any-some : (n : ℕ) → 0 < n → is_any n ≡ true

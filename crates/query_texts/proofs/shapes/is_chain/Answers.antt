@@ -2,7 +2,7 @@ use Rattle.std.proofs.Common.{◌∙◌, ◌&&◌, ap, sym}
 use Rattle.bag_algebra.specs.Kinds.{width_of}
 use Rattle.bag_algebra.specs.built.Openings.{Aggregate-is, Apply-is, Base-is, Distinct-is, Except-is, Filter-is, Intersect-is, Join-is, Limit-is, Project_with-is, Prov-is, Union-is}
 use Rattle.query_texts.specs.clauses.Chains.{is_chained}
-use Rattle.expression_texts.specs.Words.{is_any}
+use Rattle.tree_texts.specs.expressions.Words.{is_any}
 use Rattle.query_texts.specs.built.Shapes.{is_chain}
 use Rattle.query_texts.proofs.shapes.is_chain.Goals as goal
 

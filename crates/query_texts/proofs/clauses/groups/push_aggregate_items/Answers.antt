@@ -1,7 +1,7 @@
 use Rattle.std.proofs.Common.{◌+◌, ◌++◌, drop, refl, ap, add_assoc}
 use Rattle.bag_algebra.specs.declared.query.Aggr.{Aggr}
-use Rattle.expression_texts.specs.Words.{reference_text}
-use Rattle.expression_texts.proofs.Pieces.{rest_next, rest_end}
+use Rattle.tree_texts.specs.expressions.Words.{reference_text}
+use Rattle.tree_texts.proofs.Pieces.{rest_next, rest_end}
 use Rattle.query_texts.specs.clauses.Frames.{called_in}
 use Rattle.query_texts.specs.clauses.ClauseTexts.{aggregate_items, aggregated_text, item_text}
 use Rattle.query_texts.proofs.clauses.groups.push_aggregate_items.Goals as goal

@@ -1,6 +1,6 @@
 use Rattle.std.proofs.Common.{◌+◌, ◌++◌, drop, refl, ap, add_assoc}
 use Rattle.bag_algebra.specs.declared.query.Aggr.{Aggr}
-use Rattle.expression_texts.proofs.Pieces.{rest_next, rest_end}
+use Rattle.tree_texts.proofs.Pieces.{rest_next, rest_end}
 use Rattle.query_texts.specs.clauses.Names.{own}
 use Rattle.query_texts.specs.clauses.ClauseTexts.{argument_items, argument_text, item_text}
 use Rattle.query_texts.proofs.clauses.groups.push_argument_items.Goals as goal

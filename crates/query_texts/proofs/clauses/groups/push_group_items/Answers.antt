@@ -1,6 +1,6 @@
 use Rattle.std.proofs.Common.{ℕ, ◌+◌, refl}
-use Rattle.expression_texts.specs.Words.{reference_text}
-use Rattle.expression_texts.proofs.Pieces.{rest_at, rest_end}
+use Rattle.tree_texts.specs.expressions.Words.{reference_text}
+use Rattle.tree_texts.proofs.Pieces.{rest_at, rest_end}
 use Rattle.query_texts.specs.clauses.Names.{own}
 use Rattle.query_texts.specs.clauses.ClauseTexts.{group_items, item_text}
 use Rattle.query_texts.proofs.clauses.groups.push_group_items.Goals as goal

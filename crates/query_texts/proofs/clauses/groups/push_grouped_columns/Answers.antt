@@ -1,4 +1,4 @@
-use Rattle.expression_texts.proofs.Pieces.{range_next}
+use Rattle.tree_texts.proofs.Pieces.{range_next}
 use Rattle.query_texts.specs.clauses.ClauseTexts.{grouped_column}
 use Rattle.query_texts.proofs.clauses.groups.push_grouped_columns.Goals as goal
 

@@ -1,4 +1,4 @@
-use Rattle.expression_texts.proofs.Pieces.{range_next}
+use Rattle.tree_texts.proofs.Pieces.{range_next}
 use Rattle.query_texts.specs.clauses.Keys.{unless_key}
 use Rattle.query_texts.proofs.clauses.lists.all_keys.Goals as goal
 

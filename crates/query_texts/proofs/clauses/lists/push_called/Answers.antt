@@ -1,5 +1,5 @@
 use Rattle.std.proofs.Common.{◌+◌, refl}
-use Rattle.expression_texts.proofs.Pieces.{rest_next, rest_end}
+use Rattle.tree_texts.proofs.Pieces.{rest_next, rest_end}
 use Rattle.query_texts.specs.clauses.ClauseTexts.{called_item, called_items}
 use Rattle.query_texts.proofs.clauses.lists.push_called.Goals as goal
 

@@ -1,4 +1,4 @@
-use Rattle.expression_texts.proofs.Pieces.{range_next}
+use Rattle.tree_texts.proofs.Pieces.{range_next}
 use Rattle.query_texts.specs.clauses.Frames.{called_in}
 use Rattle.query_texts.specs.clauses.ClauseTexts.{column_item}
 use Rattle.query_texts.proofs.clauses.lists.push_column_items.Goals as goal

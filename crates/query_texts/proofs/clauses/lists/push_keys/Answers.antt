@@ -1,5 +1,5 @@
 use Rattle.std.proofs.Common.{◌+◌, refl}
-use Rattle.expression_texts.proofs.Pieces.{rest_at, rest_end}
+use Rattle.tree_texts.proofs.Pieces.{rest_at, rest_end}
 use Rattle.query_texts.specs.clauses.ClauseTexts.{key_text, key_texts}
 use Rattle.query_texts.proofs.clauses.lists.push_keys.Goals as goal
 

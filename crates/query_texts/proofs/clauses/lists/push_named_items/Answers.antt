@@ -1,6 +1,6 @@
 use Rattle.std.proofs.Common.{ℕ, ◌+◌, List, refl}
-use Rattle.expression_texts.specs.Words.{name_text}
-use Rattle.expression_texts.proofs.Pieces.{rest_next, rest_end}
+use Rattle.tree_texts.specs.expressions.Words.{name_text}
+use Rattle.tree_texts.proofs.Pieces.{rest_next, rest_end}
 use Rattle.query_texts.specs.clauses.Frames.{called_in}
 use Rattle.query_texts.specs.clauses.ClauseTexts.{item_text, named_items}
 use Rattle.query_texts.proofs.clauses.lists.push_named_items.Goals as goal

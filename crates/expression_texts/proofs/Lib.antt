@@ -1,4 +1,0 @@
-pub mod Counted
-pub mod Opened
-pub mod OpenedUses
-pub mod Pieces
