@@ -9,8 +9,7 @@ ghost use Rattle.name_statements.specs.Resolves.{ConditionSeen, ResolvesBody, Re
 
 use bag_algebra::Expr;
 use name_made::made;
-use name_made_nodes::Within;
-use name_meaning::{Break, Resolved, Rule};
+use name_meaning::{Break, Resolved, Rule, Within};
 use name_seen_parts::{Here, Refusal, Scopes, inside};
 use name_statements::{
     alone, delete_break, delete_of, let_condition_go, let_found_go, table_scope,

@@ -12,8 +12,7 @@ ghost use Rattle.name_statements.specs.Resolves.{ResolvesBody, ResolvesBy};
 
 use bag_algebra::Expr;
 use name_made::made;
-use name_made_nodes::Within;
-use name_meaning::{Break, Resolved, Rule};
+use name_meaning::{Break, Resolved, Rule, Within};
 use name_seen_parts::{Here, Refusal, Scopes};
 use name_statements::{
     alone, insert_of, let_found_go, let_rows_go, rows_break, with_row, with_value,

@@ -10,9 +10,9 @@ use Rattle.sql_tree.specs.declared.query.SetStep.{SetStep}
 use Rattle.name_meaning.specs.Meanings.{Around, QueryMeant}
 use Rattle.name_meaning.specs.Queries.{SetStepPart, set_chain, set_joined, set_of, may_not_ask}
 use Rattle.name_meaning.specs.Trees.{set_of_tree, set_step_of}
-use Rattle.name_made_nodes.specs.Chained.{Serves}
-use Rattle.name_made_nodes.specs.Makes.{MakesQuery}
-use Rattle.name_made_nodes.proofs.Chains.{chain-append, joined-made, serves-so-far}
+use Rattle.name_meaning.specs.nodes.Chained.{Serves}
+use Rattle.name_meaning.specs.nodes.Makes.{MakesQuery}
+use Rattle.name_meaning.proofs.Chains.{chain-append, joined-made, serves-so-far}
 use Rattle.name_made_parts.proofs.Querying.{step-is}
 
 -- a chain made on what stands before it, where these kinds serve the whole

@@ -20,8 +20,8 @@ use Rattle.name_meaning.specs.Meanings.{Surroundings}
 use Rattle.name_meaning.specs.Scopes.{ScopeItem}
 use Rattle.name_meaning.specs.Trees.{from_item_of, from_of, item_of, join_of, part_of}
 use Rattle.name_meaning.specs.declared.scope.Scope.{Scope}
-use Rattle.name_made_nodes.specs.Listed.{MakesItems}
-use Rattle.name_made_nodes.specs.declared.within.Within.{Within}
+use Rattle.name_meaning.specs.nodes.Listed.{MakesItems}
+use Rattle.name_meaning.specs.declared.nodes.within.Within.{Within}
 use Rattle.name_seen.proofs.FromTrees.{from-means}
 use Rattle.name_made_parts.specs.Cored.{items_meant}
 use Rattle.name_made_parts.specs.Sources.{JoinsMade, MakesBeside, MakesJoin, MakesOn, MakesSource, join_count, join_on_kept}

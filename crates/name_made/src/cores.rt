@@ -5,8 +5,8 @@ ghost use Rattle.name_meaning.specs.Froms.{in_clause, optional_meant};
 ghost use Rattle.name_meaning.specs.Meanings.{means_at};
 ghost use Rattle.name_meaning.specs.Scopes.{ScopeItem, scope_of};
 ghost use Rattle.name_meaning.specs.Trees.{core_of, item_of, part_of};
-ghost use Rattle.name_made_nodes.specs.Listed.{MakesItems};
-ghost use Rattle.name_made_nodes.specs.Makes.{MakesQuery};
+ghost use Rattle.name_meaning.specs.nodes.Listed.{MakesItems};
+ghost use Rattle.name_meaning.specs.nodes.Makes.{MakesQuery};
 ghost use Rattle.name_meaning.specs.declared.answer.Break.{Break};
 ghost use Rattle.name_seen_parts.specs.Named.{here_only, scopes_of};
 ghost use Rattle.name_seen_parts.specs.Standing.{around_of, surroundings};
@@ -16,12 +16,11 @@ ghost use Rattle.name_made_parts.specs.Sources.{IsScope};
 use crate::expressions::made;
 use crate::sources::sources_made;
 use bag_algebra::{Aggr, Item, Query};
-use name_made_nodes::{Clauses, Condition, Listed, Within, add_value, beside, core_of};
+use name_meaning::{Clauses, Condition, Listed, Scope, Within, add_value, beside, core_of};
 use name_made_parts::{
     Kept, add_star, add_table_star, behind_aggregates, clauses_of, groups_of, item_kind, kept_of,
     listed_of, nothing_kept, scope_grouped, scope_or_none,
 };
-use name_meaning::Scope;
 use name_seen_cores::in_clause;
 use name_seen_parts::{Around, Here, inside};
 use perm_values::{Kind, List, NoMemory};

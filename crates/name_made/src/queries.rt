@@ -4,13 +4,13 @@ ghost use Rattle.perm_catalog.specs.Sound.{IsSound};
 ghost use Rattle.name_meaning.specs.Meanings.{QueryMeant, query_means_at};
 ghost use Rattle.name_meaning.specs.Queries.{set_chain};
 ghost use Rattle.name_meaning.specs.Trees.{query_of, set_of_tree, set_step_of};
-ghost use Rattle.name_made_nodes.specs.Chained.{Serves};
-ghost use Rattle.name_made_nodes.specs.Makes.{MakesQuery};
+ghost use Rattle.name_meaning.specs.nodes.Chained.{Serves};
+ghost use Rattle.name_meaning.specs.nodes.Makes.{MakesQuery};
 ghost use Rattle.name_seen_parts.specs.Standing.{around_of};
 
 use crate::cores::core_made;
 use bag_algebra::Query;
-use name_made_nodes::{finished_of, with_operand};
+use name_meaning::{finished_of, with_operand};
 use name_made_parts::{chain_kinds, limit_keys};
 use name_seen_cores::asks_provenance;
 use name_seen_parts::Around;

@@ -18,9 +18,9 @@ use Rattle.name_meaning.specs.declared.need.Need.{Need}
 use Rattle.name_meaning.specs.declared.need.Need.TheVariants.{Alike}
 use Rattle.name_seen_parts.specs.Columns.{column_of, columns_of}
 use Rattle.name_seen_parts.specs.declared.clauses.column.ShownColumn.{ShownColumn}
-use Rattle.name_made_nodes.proofs.Chains.{settle-more}
-use Rattle.name_made_nodes.proofs.FormsMade.{arm-is}
-use Rattle.name_made_nodes.proofs.United.{arm-alike, next-alike, one-alike, united-append}
+use Rattle.name_meaning.proofs.Chains.{settle-more}
+use Rattle.name_meaning.proofs.FormsMade.{arm-is}
+use Rattle.name_meaning.proofs.United.{arm-alike, next-alike, one-alike, united-append}
 
 -- ---- what operands are united to
 

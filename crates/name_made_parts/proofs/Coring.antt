@@ -28,13 +28,13 @@ use Rattle.name_meaning.specs.Trees.{core_of, item_of, part_of}
 use Rattle.name_meaning.specs.declared.answer.Break.{Break}
 use Rattle.name_meaning.specs.declared.scope.Scope.{Scope}
 use Rattle.name_meaning.proofs.Equations.{token, selectitem-star, selectitem-tablestar, selectitem-value}
-use Rattle.name_made_nodes.specs.Cored.{clauses_over, condition_over, listed_over}
-use Rattle.name_made_nodes.specs.Listed.{MakesItems, widths}
-use Rattle.name_made_nodes.specs.Makes.{Makes, MakesQuery, nothing_found}
-use Rattle.name_made_nodes.specs.declared.cores.Clauses.{Clauses}
-use Rattle.name_made_nodes.specs.declared.cores.Condition.{Condition}
-use Rattle.name_made_nodes.specs.declared.within.Within.{Within}
-use Rattle.name_made_nodes.proofs.ItemLists.{more-listed}
+use Rattle.name_meaning.specs.nodes.Cored.{clauses_over, condition_over, listed_over}
+use Rattle.name_meaning.specs.nodes.Listed.{MakesItems, widths}
+use Rattle.name_meaning.specs.nodes.Makes.{Makes, MakesQuery, nothing_found}
+use Rattle.name_meaning.specs.declared.nodes.cores.Clauses.{Clauses}
+use Rattle.name_meaning.specs.declared.nodes.cores.Condition.{Condition}
+use Rattle.name_meaning.specs.declared.nodes.within.Within.{Within}
+use Rattle.name_meaning.proofs.ItemLists.{more-listed}
 use Rattle.name_made_parts.specs.Cored.{AreKept, Keeps, MakesClauses, MakesList, MakesSelected, condition_of, condition_part, core_over_items, having_part, in_groups, in_rows, items_meant, kept_of, select_parts, source_parts, sources_meant, own_breaks}
 use Rattle.name_made_parts.specs.Sources.{IsScope}
 use Rattle.name_made_parts.specs.declared.asked.cores.Kept.{Kept}

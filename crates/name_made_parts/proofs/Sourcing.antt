@@ -28,7 +28,7 @@ use Rattle.name_made_parts.specs.Sources.{IsScope, JoinsMade, MakesBeside, Makes
 use Rattle.name_seen_parts.proofs.Scoping.{more-behind}
 use Rattle.name_made_parts.proofs.Coring.{own-whole}
 use Rattle.name_made_parts.specs.Cored.{AreKept}
-use Rattle.name_made_nodes.specs.declared.cores.Condition.{Condition}
+use Rattle.name_meaning.specs.declared.nodes.cores.Condition.{Condition}
 use Rattle.name_made_parts.specs.declared.asked.cores.Kept.{Kept}
 
 -- ---- items in scope

@@ -3,7 +3,7 @@ use Rattle.std.specs.Prelude.{◌≡◌, List}
 use Rattle.perm_values.specs.declared.kind.Kind.{Kind}
 use Rattle.name_meaning.specs.Cores.{settle_known}
 use Rattle.name_meaning.specs.Meanings.{QueryMeant}
-use Rattle.name_made_nodes.specs.Chained.{Serves}
+use Rattle.name_meaning.specs.nodes.Chained.{Serves}
 
 -- the kinds of its columns, where those of any take the wanted ones
 pub record Settles (m : QueryMeant) (wanted kinds : List Kind) : Type 0 where

@@ -14,11 +14,11 @@ use Rattle.name_meaning.specs.Scopes.{ScopeItem}
 use Rattle.name_meaning.specs.Trees.{from_of, item_of, part_of}
 use Rattle.name_meaning.specs.declared.answer.Break.{Break}
 use Rattle.name_meaning.specs.declared.scope.Scope.{Scope}
-use Rattle.name_made_nodes.specs.Listed.{MakesItems}
-use Rattle.name_made_nodes.specs.declared.cores.Clauses.{Clauses}
-use Rattle.name_made_nodes.specs.declared.cores.Condition.{Condition}
-use Rattle.name_made_nodes.specs.declared.cores.Listed.{Listed}
-use Rattle.name_made_nodes.specs.declared.within.Within.{Within}
+use Rattle.name_meaning.specs.nodes.Listed.{MakesItems}
+use Rattle.name_meaning.specs.declared.nodes.cores.Clauses.{Clauses}
+use Rattle.name_meaning.specs.declared.nodes.cores.Condition.{Condition}
+use Rattle.name_meaning.specs.declared.nodes.cores.Listed.{Listed}
+use Rattle.name_meaning.specs.declared.nodes.within.Within.{Within}
 use Rattle.name_seen_parts.specs.Named.{here_only}
 use Rattle.name_made_parts.specs.declared.asked.cores.Kept.{Kept}
 

@@ -16,7 +16,7 @@ use Rattle.name_meaning.specs.Scopes.{ScopeItem, scope_of}
 use Rattle.name_meaning.specs.declared.scope.Scope.{Scope}
 use Rattle.name_made_parts.specs.declared.shown.ShownNames.{ShownNames}
 use Rattle.name_made_parts.specs.Cored.{Keeps}
-use Rattle.name_made_nodes.specs.declared.cores.Condition.{Condition}
+use Rattle.name_meaning.specs.declared.nodes.cores.Condition.{Condition}
 use Rattle.name_made_parts.specs.declared.asked.cores.Kept.{Kept}
 
 abbrev pub text_of : Name → List ℕ

@@ -11,7 +11,7 @@ ghost use Rattle.name_made_parts.specs.Sources.{Shows, beside_left, join_count, 
 use crate::asked::{Kept, condition_of, nothing_kept};
 use crate::shown::ShownNames;
 use bag_algebra::{JoinKind, Query};
-use name_made_nodes::{
+use name_meaning::{
     Condition, attributes_of, beside, column_names, external, table_plain, table_rows, truth_value,
     whole_source,
 };

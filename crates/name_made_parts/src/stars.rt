@@ -5,13 +5,12 @@ ghost use Rattle.bag_algebra.specs.declared.expr.Expr.TheVariants.{Col};
 ghost use Rattle.perm_values.specs.declared.kind.Kind.{Kind};
 ghost use Rattle.name_meaning.specs.Items.{column_item, star_meant, table_star_meant};
 ghost use Rattle.name_meaning.specs.Sublinks.{null_at};
-ghost use Rattle.name_made_nodes.specs.Listed.{MakesItems};
-ghost use Rattle.name_made_nodes.specs.declared.within.Within.{Within};
+ghost use Rattle.name_meaning.specs.nodes.Listed.{MakesItems};
+ghost use Rattle.name_meaning.specs.declared.nodes.within.Within.{Within};
 ghost use Rattle.name_seen_parts.specs.Stars.{columns_of, is_of};
 
 use bag_algebra::{Expr, Item};
-use name_made_nodes::null_at;
-use name_meaning::{Scope, ScopeColumn};
+use name_meaning::{Scope, ScopeColumn, null_at};
 use name_seen_parts::{is_of, item_number, place_among};
 use perm_values::{Kind, List, NoMemory};
 use sql_tree::Name;

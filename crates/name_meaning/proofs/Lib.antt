@@ -1,7 +1,9 @@
 mod Aggregates
 mod Arms
+pub mod ArmsMade
 pub mod Ascending
 mod Bodies
+pub mod Chains
 mod CoreSteps
 mod Cores
 pub mod Equations
@@ -14,6 +16,7 @@ pub mod FittingTables
 mod FormedParts
 mod FormedTrees
 pub mod Forms
+pub mod FormsMade
 mod FoundColumns
 mod Froms
 mod GoodMeant
@@ -21,6 +24,7 @@ mod Grouped
 mod Holding
 pub mod Impacts
 pub mod Induction
+pub mod ItemLists
 mod Items
 pub mod Joins
 mod Kept
@@ -31,10 +35,12 @@ mod KeptQueries
 mod KeptTrees
 pub mod KindsOf
 pub mod Lateral
+pub mod Linking
 pub mod Named
 mod NamedPlaces
 pub mod Needs
 pub mod Opened
+pub mod Parts
 mod Queries
 mod ReadCores
 mod ReadFroms
@@ -45,6 +51,8 @@ pub mod Settled
 mod Standing
 mod SteadyMeant
 mod Sublinks
+pub mod Times
 pub mod TreeLaws
 pub mod Trees
+pub mod United
 pub mod Uniting

@@ -12,3 +12,4 @@ pub mod Statements
 pub mod Sublinks
 pub mod Trees
 pub mod laws
+pub mod nodes

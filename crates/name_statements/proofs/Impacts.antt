@@ -17,7 +17,7 @@ use Rattle.name_meaning.specs.declared.answer.Break.{Break}
 use Rattle.name_meaning.specs.declared.answer.Resolved.TheVariants as r
 use Rattle.name_meaning.specs.declared.rule.Rule.TheVariants as rule
 use Rattle.name_meaning.proofs.Every.{unbroken}
-use Rattle.name_made_nodes.specs.Makes.{MakesQuery}
+use Rattle.name_meaning.specs.nodes.Makes.{MakesQuery}
 use Rattle.name_seen_parts.proofs.Firsts.{none-broken}
 use Rattle.name_seen_parts.specs.Seen.{first_or}
 use Rattle.name_seen_parts.specs.declared.refusal.Refusal.{Refusal}

@@ -5,8 +5,8 @@ use Rattle.std.proofs.lemmas.Bool.{cases_lt}
 use Rattle.std.proofs.Math.ListN.{drop_of_length-le}
 use Rattle.bag_algebra.specs.declared.expr.Expr.{Expr}
 use Rattle.name_statements.proofs.Broken.{value-before, value_break}
-use Rattle.name_made_nodes.specs.Makes.{Makes, before_of, nothing_found}
-use Rattle.name_made_nodes.specs.declared.within.Within.{Within}
+use Rattle.name_meaning.specs.nodes.Makes.{Makes, before_of, nothing_found}
+use Rattle.name_meaning.specs.declared.nodes.within.Within.{Within}
 use Rattle.name_meaning.specs.Meanings.{Meant, Surroundings, broken, means_at}
 use Rattle.name_meaning.specs.Statements.{bare, condition_made, delete_breaks, made_alone, row_breaks, row_made, table_scope, values_breaks}
 use Rattle.name_meaning.specs.Trees.{part_of}

@@ -16,7 +16,7 @@ use Rattle.std.specs.Option.{option_map_or}
 use Rattle.name_meaning.specs.declared.answer.Break.{Break}
 use Rattle.name_meaning.specs.declared.rule.Rule.TheVariants as rule
 use Rattle.name_inside.specs.heights.High.{QueryHigh}
-use Rattle.name_made_nodes.specs.Makes.{MakesQuery}
+use Rattle.name_meaning.specs.nodes.Makes.{MakesQuery}
 use Rattle.name_seen_parts.specs.Seen.{first_or}
 use Rattle.perm_catalog.specs.Contents.{Contents}
 use Rattle.perm_catalog.specs.declared.column.Column.{Column}

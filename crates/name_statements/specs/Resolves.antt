@@ -3,7 +3,7 @@ use Rattle.std.specs.Prelude.{◌≡◌, ℕ, true, cond, List, [], ◌++◌, le
 use Rattle.perm_catalog.specs.Contents.{Contents}
 use Rattle.bag_algebra.specs.declared.expr.Expr.{Expr}
 use Rattle.bag_algebra.specs.declared.query.Query.{Query}
-use Rattle.name_made_nodes.specs.Makes.{MakesQuery}
+use Rattle.name_meaning.specs.nodes.Makes.{MakesQuery}
 use Rattle.name_inside.specs.Held.{inside_in}
 use Rattle.name_inside.specs.declared.gathered.Gathered.{Gathered}
 use Rattle.query_facts.specs.monotone.Monotone.{is_monotone}

@@ -1,8 +1,7 @@
 //! What a run lets go. It isn't taken apart in the crate that calls: how trees and queries are dropped is proved again in each
 //! crate that drops one.
 
-use name_made_nodes::Within;
-use name_meaning::Resolved;
+use name_meaning::{Resolved, Within};
 use perm_catalog::Catalog;
 use perm_values::List;
 use sql_tree::{ExprTree, QueryTree, Statement, ValuesRow};

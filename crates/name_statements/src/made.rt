@@ -5,8 +5,7 @@ ghost use Rattle.name_meaning.specs.declared.answer.Resolved.TheVariants as made
 use crate::queries::{Whole, answer_of};
 use crate::tables::text_of;
 use bag_algebra::Expr;
-use name_made_nodes::with_more;
-use name_meaning::Resolved;
+use name_meaning::{Resolved, with_more};
 use name_seen_parts::Refusal;
 use perm_catalog::ViewEntry;
 use perm_values::{List, NoMemory};

@@ -4,7 +4,7 @@ ghost use Rattle.query_facts.specs.monotone.Monotone as queries;
 ghost use Rattle.name_seen_parts.specs.Columns.{columns_of};
 ghost use Rattle.name_seen_parts.specs.Seen.{first_or};
 ghost use Rattle.name_seen_parts.specs.Standing.{around_of};
-ghost use Rattle.name_made_nodes.specs.Makes.{MakesQuery};
+ghost use Rattle.name_meaning.specs.nodes.Makes.{MakesQuery};
 ghost use Rattle.name_meaning.specs.Meanings.{QueryMeant, broken_if, query_means_at};
 ghost use Rattle.name_meaning.specs.Queries.{key_of};
 ghost use Rattle.name_meaning.specs.Trees.{query_of};

@@ -1,7 +1,7 @@
 //! Whole queries, within the limits, of what was seen, found and made of them.
 ghost use Rattle.std.specs.Prelude.{◌≡◌, [], IfOk, IsOkAnd, Ok, map};
 ghost use Rattle.name_seen_parts.specs.Columns.{columns_of};
-ghost use Rattle.name_made_nodes.specs.Makes.{MakesQuery};
+ghost use Rattle.name_meaning.specs.nodes.Makes.{MakesQuery};
 ghost use Rattle.name_seen_parts.specs.Standing.{around_of};
 ghost use Rattle.name_meaning.specs.Froms.{names_of, settled_columns};
 ghost use Rattle.name_meaning.specs.Meanings.{QueryMeant, query_means_at};

@@ -4,15 +4,15 @@ use Rattle.perm_values.specs.declared.kind.Kind.{Kind}
 use Rattle.name_meaning.specs.Operands.{operand}
 use Rattle.name_meaning.specs.Trees.{arm_of, part_of, step_of, from_item_of, from_of, join_of, set_step_of, item_of}
 use Rattle.name_seen_parts.specs.Standing.{surroundings, around_of}
-use Rattle.name_made_nodes.specs.Makes.{MakesArms, MakesMore, MakesSteps, MakesQuery}
+use Rattle.name_meaning.specs.nodes.Makes.{MakesArms, MakesMore, MakesSteps, MakesQuery}
 use Rattle.name_meaning.specs.Froms.{first_item, in_from, join_all}
 use Rattle.name_meaning.specs.Meanings.{QueryMeant}
 use Rattle.name_meaning.specs.Queries.{set_chain}
 use Rattle.sql_tree.specs.declared.source.FromTree.{out-FromTree}
 use Rattle.name_seen_parts.specs.Named.{scopes_of}
-use Rattle.name_made_nodes.specs.Chained.{Serves}
+use Rattle.name_meaning.specs.nodes.Chained.{Serves}
 use Rattle.name_made_parts.specs.Sources.{JoinsMade, SourcesMade}
-use Rattle.name_made_nodes.specs.Listed.{MakesItems}
+use Rattle.name_meaning.specs.nodes.Listed.{MakesItems}
 use Rattle.name_made_parts.specs.Cored.{items_meant}
 use Rattle.name_made.proofs.+made.Given as goal
 

@@ -10,8 +10,7 @@ ghost use Rattle.name_made_parts.specs.Cored.{core_groups, having_part, kept_of,
 ghost use Rattle.name_made_parts.specs.Sources.{IsScopeOf};
 
 use bag_algebra::{Aggr, Expr, Item};
-use name_made_nodes::{Clauses, Condition, Listed, Within, beside};
-use name_meaning::Scope;
+use name_meaning::{Clauses, Condition, Listed, Scope, Within, beside};
 use name_seen::from_scope;
 use name_seen_cores::{Facts, places_of_groups};
 use name_seen_parts::{Around, Refusal, grouped};

@@ -10,8 +10,7 @@ ghost use Rattle.name_meaning.specs.declared.need.Need.TheVariants.{Alike};
 ghost use Rattle.name_seen_parts.specs.Standing.{surroundings};
 ghost use Rattle.perm_catalog.specs.Sound.{IsSound};
 
-use name_made_nodes::alike_wanted;
-use name_meaning::{Gives, Need, settled};
+use name_meaning::{Gives, Need, alike_wanted, settled};
 use name_seen::{kind_of, query_seen};
 use name_seen_cores::{in_tested, kind_of_first};
 use name_seen_parts::{Here, Refusal};

@@ -1,5 +1,5 @@
 use Rattle.std.specs.Prelude.{[]}
-use Rattle.name_made_nodes.specs.Makes.{MakesQuery}
+use Rattle.name_meaning.specs.nodes.Makes.{MakesQuery}
 use Rattle.perm_values.proofs.Taken.{opened}
 use Rattle.name_statements.proofs.Impacts.{monotone-so}
 use Rattle.name_statements.proofs.monotone.monotone_made.Goals as goal

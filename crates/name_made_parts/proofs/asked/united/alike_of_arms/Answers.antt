@@ -4,7 +4,7 @@ use Rattle.perm_values.specs.declared.kind.Kind.{Kind}
 use Rattle.name_meaning.specs.Expressions.{arm_operands}
 use Rattle.name_meaning.specs.Meanings.{settled}
 use Rattle.name_meaning.specs.Trees.{arm_of}
-use Rattle.name_made_nodes.proofs.United.{no-else}
+use Rattle.name_meaning.proofs.United.{no-else}
 use Rattle.name_seen_parts.specs.Standing.{surroundings}
 use Rattle.name_made_parts.proofs.asked.united.alike_of_arms.Goals as goal
 

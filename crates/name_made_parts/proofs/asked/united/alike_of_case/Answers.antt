@@ -6,7 +6,7 @@ use Rattle.name_meaning.specs.Meanings.{settled, united_kind}
 use Rattle.name_meaning.specs.Operands.{operand, united}
 use Rattle.name_meaning.specs.Trees.{arm_of, part_of}
 use Rattle.name_meaning.specs.declared.need.Need.TheVariants.{Alike}
-use Rattle.name_made_nodes.proofs.United.{united-append}
+use Rattle.name_meaning.proofs.United.{united-append}
 use Rattle.name_seen_parts.specs.Standing.{surroundings}
 use Rattle.name_made_parts.proofs.asked.united.alike_of_case.Goals as goal
 

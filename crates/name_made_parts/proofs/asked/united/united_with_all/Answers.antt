@@ -1,6 +1,6 @@
 use Rattle.std.proofs.Common.{sym, take}
 use Rattle.std.proofs.lemmas.List.{take_all}
-use Rattle.name_made_nodes.proofs.United.{united-none}
+use Rattle.name_meaning.proofs.United.{united-none}
 use Rattle.name_seen_parts.specs.Standing.{surroundings}
 use Rattle.name_made_parts.proofs.AskedListing.{alike-more}
 use Rattle.name_made_parts.proofs.asked.united.united_with_all.Goals as goal
