@@ -16,11 +16,11 @@ ghost use Rattle.name_made_parts.specs.Sources.{IsScope};
 use crate::expressions::made;
 use crate::sources::sources_made;
 use bag_algebra::{Aggr, Item, Query};
-use name_meaning::{Clauses, Condition, Listed, Scope, Within, add_value, beside, core_of};
 use name_made_parts::{
     Kept, add_star, add_table_star, behind_aggregates, clauses_of, groups_of, item_kind, kept_of,
     listed_of, nothing_kept, scope_grouped, scope_or_none,
 };
+use name_meaning::{Clauses, Condition, Listed, Scope, Within, add_value, beside, core_of};
 use name_seen_cores::in_clause;
 use name_seen_parts::{Around, Here, inside};
 use perm_values::{Kind, List, NoMemory};

@@ -14,10 +14,15 @@ ghost use Rattle.name_seen_parts.specs.Standing.{surroundings};
 
 use crate::queries::query_made;
 use bag_algebra::{Arm, ChainStep, Expr, SubKind};
-use name_meaning::{Gives, Need, Within, aggregate_of, argument_wanted, arm_of, between, case, chain_start, chained, column_made, count_made, in_kind, in_list, in_list_kind, integer_value, like, null_at, null_tested, on_parts, on_two, repeated, same_tested, step_of, sublink_of, text_value, truth_tested, truth_value, wanted_of, with_more};
 use name_made_parts::{
     alike_behind, alike_of_all, alike_of_arms, alike_of_case, alike_of_three, alike_of_two,
     group_count, kind_or_any, scalar_kind, tested_kind,
+};
+use name_meaning::{
+    Gives, Need, Within, aggregate_of, argument_wanted, arm_of, between, case, chain_start,
+    chained, column_made, count_made, in_kind, in_list, in_list_kind, integer_value, like, null_at,
+    null_tested, on_parts, on_two, repeated, same_tested, step_of, sublink_of, text_value,
+    truth_tested, truth_value, wanted_of, with_more,
 };
 use name_seen_cores::{in_argument, in_tested};
 use name_seen_parts::{Around, Here, gives_of, look_up, need_of, ungrouped};

@@ -10,8 +10,8 @@ ghost use Rattle.name_seen_parts.specs.Standing.{around_of};
 
 use crate::cores::core_made;
 use bag_algebra::Query;
-use name_meaning::{finished_of, with_operand};
 use name_made_parts::{chain_kinds, limit_keys};
+use name_meaning::{finished_of, with_operand};
 use name_seen_cores::asks_provenance;
 use name_seen_parts::Around;
 use perm_values::{Kind, NoMemory};

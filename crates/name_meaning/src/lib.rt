@@ -21,7 +21,14 @@ pub use laws::{
     queries_keep_their_facts, tables_fit_queries, views_name_what_they_read,
 };
 pub use need::{Gives, Need};
-pub use nodes::{Clauses, Condition, Listed, Within, add_value, aggregate_of, alike_wanted, argument_wanted, arm_of, attributes_of, beside, between, case, chain_start, chained, column_made, column_names, core_of, count_made, external, finished_of, in_kind, in_list, in_list_kind, integer_value, like, null_at, null_tested, on_parts, on_two, repeated, same_tested, step_of, sublink_of, table_plain, table_rows, text_value, truth_tested, truth_value, wanted_of, whole_source, with_more, with_operand};
+pub use nodes::{
+    Clauses, Condition, Listed, Within, add_value, aggregate_of, alike_wanted, argument_wanted,
+    arm_of, attributes_of, beside, between, case, chain_start, chained, column_made, column_names,
+    core_of, count_made, external, finished_of, in_kind, in_list, in_list_kind, integer_value,
+    like, null_at, null_tested, on_parts, on_two, repeated, same_tested, step_of, sublink_of,
+    table_plain, table_rows, text_value, truth_tested, truth_value, wanted_of, whole_source,
+    with_more, with_operand,
+};
 pub use rule::Rule;
 pub use scope::{Found, FoundColumn, Scope, ScopeColumn};
 pub use scope_columns::ScopeColumns;

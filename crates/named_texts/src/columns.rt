@@ -1,7 +1,7 @@
 //! The columns that an expression sees.
-use tree_texts::Draft;
 use perm_values::{Bytes, Chars, List, NoMemory};
 use std::alloc::Global;
+use tree_texts::Draft;
 
 /// A column that is seen: what it is called, and how it is referred to.
 #[derive(Drop)]

@@ -2,9 +2,9 @@
 use crate::columns::{Seen, column_at};
 use crate::words::push_spelling;
 use bag_algebra::{Arm, ChainStep, Expr};
-use tree_texts::{Draft, push_expr};
 use null_logic::{Operator, Truth};
 use perm_values::{Bytes, NoMemory};
+use tree_texts::{Draft, push_expr};
 
 /// Whether an expression stands without parentheses among operands of AND, and as a side of a comparison.
 fn stands_alone(expr: &Expr) -> bool {

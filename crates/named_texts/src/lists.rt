@@ -4,9 +4,9 @@ use crate::columns::{Column, Seen, column_at};
 use crate::expressions::push_bare;
 use crate::words::{aggregate_name, aggregate_words};
 use bag_algebra::{AggFn, Aggr, Expr, Item};
-use tree_texts::Draft;
 use perm_values::{Bytes, Copyable, List, NoMemory};
 use std::alloc::Global;
+use tree_texts::Draft;
 
 /// What a column that stands as it is is called; of other expressions nothing.
 fn own_name<'a>(expr: &Expr, seen: &'a Seen<'a>) -> &'a [u8] {

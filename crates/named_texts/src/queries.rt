@@ -11,10 +11,10 @@ use crate::sources::{
 };
 use crate::sublinks::push_asking;
 use bag_algebra::{Aggr, Answer, Item, JoinKind, Query, SubKind, Sublink};
-use tree_texts::Draft;
 use perm_values::{Bytes, List, NoMemory};
 use query_texts::{TableNames, push_limit, push_ordered, push_set};
 use std::alloc::Global;
+use tree_texts::Draft;
 
 /// What a query in FROM is called that is no table: by the table that its rows are of, or by its topmost node.
 #[cycle(source_name)]

@@ -4,9 +4,9 @@ use crate::expressions::push_bare;
 use crate::names::Names;
 use crate::words::join_words;
 use bag_algebra::{Expr, JoinKind, Query};
-use tree_texts::Draft;
 use perm_values::{Bytes, List, NoMemory, Value};
 use std::alloc::Global;
+use tree_texts::Draft;
 
 /// What stands behind FROM and behind WHERE, each empty where nothing does, and the columns that these give.
 #[derive(Drop)]

@@ -2,9 +2,9 @@
 use crate::columns::Seen;
 use crate::expressions::push_part;
 use bag_algebra::{Expr, SubKind};
-use tree_texts::Draft;
 use perm_values::NoMemory;
 use query_texts::{all_text, any_text};
+use tree_texts::Draft;
 
 /// What stands before the query of a sublink.
 pub(crate) fn push_asking(

@@ -1,7 +1,7 @@
 //! Words of SQL, each with a blank behind it.
 use bag_algebra::{AggFn, JoinKind};
-use tree_texts::Draft;
 use perm_values::NoMemory;
+use tree_texts::Draft;
 
 /// Writes an operator.
 pub(crate) fn push_spelling(spelling: &str, draft: &mut Draft) -> Result<(), NoMemory> {

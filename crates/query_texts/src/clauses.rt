@@ -8,9 +8,9 @@ ghost use Rattle.query_texts.specs.clauses.Unused.{items_use, spare, used_in};
 
 use crate::clauses::lists::{push_as, push_comma};
 use bag_algebra::{Expr, Item};
-use tree_texts::{Draft, push_expr, uses};
 use perm_values::{Bytes, Copyable, Kind, List, NoMemory};
 use std::alloc::Global;
+use tree_texts::{Draft, push_expr, uses};
 
 mod frame;
 mod groups;

@@ -16,9 +16,9 @@ use crate::clauses::{
 };
 use crate::shapes::{is_block, is_chain, is_chained, is_select};
 use bag_algebra::{Aggr, Answer, JoinKind, Query, Sublink, exact_width};
-use tree_texts::{Draft, behind};
 use perm_values::{Bytes, List, NoMemory};
 use std::alloc::Global;
+use tree_texts::{Draft, behind};
 
 /// Writes a query in a frame.
 #[cycle(push_query)]

@@ -7,7 +7,9 @@ ghost use Rattle.tree_texts.specs.expressions.Words.{first_between, later_betwee
 
 use crate::expressions::counts::behind;
 use crate::expressions::draft::Draft;
-use crate::expressions::operators::{back, first_between, front, is_said, later_between, separator};
+use crate::expressions::operators::{
+    back, first_between, front, is_said, later_between, separator,
+};
 use crate::expressions::words::{chain_word, truth_back, truth_front};
 use bag_algebra::{Arm, ChainStep, Expr};
 use null_logic::{Arith, Operator, Truth};

@@ -6,9 +6,9 @@ ghost use Rattle.name_meaning.specs.Scopes.{group_count};
 ghost use Rattle.name_meaning.specs.Sublinks.{aggregate_made, argument_wanted, function_of, rows_counted};
 ghost use Rattle.name_meaning.specs.nodes.Makes.{before_of, IsBuilt, Makes};
 
+use crate::kinds::aggregate_kind;
 use crate::nodes::within::Within;
 use bag_algebra::{AggFn, Aggr, Expr};
-use crate::kinds::aggregate_kind;
 use perm_values::{Kind, NoMemory};
 use sql_tree::AggWord;
 

@@ -4,8 +4,8 @@ ghost use Rattle.name_meaning.specs.Meanings.{Before, Surroundings};
 ghost use Rattle.name_meaning.specs.Sublinks.{built_alone, column_meant};
 
 use crate::nodes::expressions::null_at;
-use bag_algebra::Expr;
 use crate::scope::Found;
+use bag_algebra::Expr;
 use perm_values::Kind;
 
 /// The column that a reference means; where it means none, or one that is not grouped, it is of no account.

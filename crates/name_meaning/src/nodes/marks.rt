@@ -5,9 +5,9 @@ ghost use Rattle.bag_algebra.specs.declared.query.Query.TheVariants.{Base, Table
 ghost use Rattle.perm_catalog.specs.Columns.{column_kinds};
 ghost use Rattle.name_meaning.specs.Froms.{all_places, external, named_so, names_of, place_of, table_columns, table_plain, texts_of};
 
+use crate::columns::names_at;
 use crate::nodes::together::beside;
 use bag_algebra::{Label, Query};
-use crate::columns::names_at;
 use perm_catalog::{Column, TableEntry};
 use perm_values::{Chars, Copyable, Kind, List, NoMemory, both};
 use sql_tree::Name;

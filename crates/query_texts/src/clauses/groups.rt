@@ -8,8 +8,8 @@ ghost use Rattle.tree_texts.specs.expressions.Words.{reference_text};
 use crate::clauses::frame::Frame;
 use crate::clauses::lists::{push_as, push_column_items, push_comma, push_unread};
 use bag_algebra::{AggFn, Aggr, Expr};
-use tree_texts::{Draft, behind, push_expr};
 use perm_values::NoMemory;
+use tree_texts::{Draft, behind, push_expr};
 
 fn push_grouped_column(prefix: &[u8], number: usize, draft: &mut Draft) -> Result<(), NoMemory>
     ensures { OnOk result (draft.new ≡ draft.old ++ grouped_column prefix.now number) }

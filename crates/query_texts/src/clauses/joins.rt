@@ -4,8 +4,8 @@ ghost use Rattle.query_texts.specs.clauses.ClauseTexts.{lateral_on, set_text, so
 
 use crate::clauses::words::lateral_on;
 use bag_algebra::JoinKind;
-use tree_texts::Draft;
 use perm_values::NoMemory;
+use tree_texts::Draft;
 
 /// What ends the source whose columns begin with a number: its name.
 pub fn push_source(number: usize, draft: &mut Draft) -> Result<(), NoMemory>

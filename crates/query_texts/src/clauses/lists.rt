@@ -9,9 +9,9 @@ ghost use Rattle.tree_texts.specs.expressions.Words.{name_text};
 use crate::clauses::frame::Frame;
 use crate::clauses::tables::table_of;
 use crate::clauses::words::direction_text;
-use tree_texts::{Draft, behind};
 use perm_values::{Chars, Key, List, NoMemory};
 use std::alloc::Global;
+use tree_texts::{Draft, behind};
 
 /// What stands before the item of a number.
 pub(crate) fn push_comma(number: usize, draft: &mut Draft) -> Result<(), NoMemory>

@@ -4,8 +4,8 @@ ghost use Rattle.query_texts.specs.clauses.ClauseTexts.{asking_text, part_text, 
 
 use crate::clauses::words::{all_text, any_text};
 use bag_algebra::{Expr, SubKind};
-use tree_texts::{Draft, push_expr};
 use perm_values::NoMemory;
+use tree_texts::{Draft, push_expr};
 
 fn push_part(prefix: &[u8], tested: &Option<Expr>, draft: &mut Draft) -> Result<(), NoMemory>
     ensures { OnOk result (draft.new ≡ draft.old ++ part_text prefix.now tested.now) }
