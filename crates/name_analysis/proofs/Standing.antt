@@ -18,7 +18,7 @@ use Rattle.name_meaning.specs.Statements as words
 use Rattle.name_meaning.specs.Trees.{query_of}
 use Rattle.name_meaning.specs.declared.answer.Break.{Break}
 use Rattle.name_meaning.proofs.Impacts.{impact-query_whole, impact-stands, tables-held, earlier-none}
-use Rattle.name_meaning.proofs.Settled.{settled-names, settled-kinds}
+use Rattle.name_meaning.proofs.SettledKinds.{settled-names, settled-kinds}
 use Rattle.name_meaning.proofs.Trees.{query-known}
 use Rattle.name_meaning.specs.laws.Formed.{IsAnswer}
 use Rattle.name_meaning.proofs.TreeLaws.{query-answer, query-closed}

@@ -19,7 +19,7 @@ use Rattle.name_meaning.specs.Queries.{SetStepPart, asks_provenance, keys_breaks
 use Rattle.name_meaning.specs.Trees.{core_of, query_of, set_of_tree, set_step_of}
 use Rattle.name_meaning.specs.declared.answer.Break.{Break}
 use Rattle.name_meaning.proofs.Equations.{token, querytree-record, settree-chain, settree-core, settree-paren, setstep-record}
-use Rattle.name_meaning.proofs.Settled.{settle-twice}
+use Rattle.name_meaning.proofs.SettledKinds.{settle-twice}
 use Rattle.name_meaning.specs.nodes.Chained.{Serves}
 use Rattle.name_meaning.specs.nodes.Makes.{MakesQuery}
 use Rattle.name_made_parts.specs.AskedColumns.{Settles}

@@ -22,7 +22,7 @@ use Rattle.name_meaning.proofs.Equations.{SelectItemFrame}
 use Rattle.name_meaning.proofs.KindsOf.{with_known}
 use Rattle.name_made_parts.specs.Cored.{items_meant}
 use Rattle.name_meaning.proofs.Opened.{shown_item, opened_item}
-use Rattle.name_meaning.proofs.Settled.{settled-twice, settle_titles, settle-named, settle_titles-append}
+use Rattle.name_meaning.proofs.SettledKinds.{settled-twice, settle_titles, settle-named, settle_titles-append}
 
 -- ---- items
 

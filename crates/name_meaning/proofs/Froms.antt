@@ -58,7 +58,7 @@ use Rattle.name_meaning.proofs.Sublinks.{GoodQuery}
 use Rattle.name_meaning.specs.declared.rule.Rule.TheVariants as rule
 use Rattle.name_meaning.proofs.Every.{unbroken-not}
 use Rattle.name_meaning.proofs.KindsOf.{kinds-table_columns, items_kinds-append, kinds-plain, table_with, kinds-table, kinds-marked}
-use Rattle.name_meaning.proofs.Settled.{kinds-named_columns, settled-kinds}
+use Rattle.name_meaning.proofs.SettledKinds.{kinds-named_columns, settled-kinds}
 use Rattle.name_meaning.proofs.Standing.{stand-whole}
 
 -- ---- places

@@ -23,7 +23,7 @@ use Rattle.name_meaning.proofs.FoundColumns.{IsPlaced, all-placed, item-placed}
 use Rattle.name_meaning.proofs.FormedParts.{formed-none, formed-map, formed-both}
 use Rattle.name_meaning.proofs.GoodMeant.{GoodMeant, IsPlain}
 use Rattle.name_meaning.proofs.Arms.{null-holds}
-use Rattle.name_meaning.proofs.Settled.{settled-twice}
+use Rattle.name_meaning.proofs.SettledKinds.{settled-twice}
 
 abbrev pub IsFormedList : Surroundings → Before → Made → Type 0
 IsFormedList here before made =

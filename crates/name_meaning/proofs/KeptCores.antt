@@ -26,7 +26,7 @@ use Rattle.name_meaning.proofs.FactsOf.{facts-Filter, facts-Project, facts-aggre
 use Rattle.name_meaning.proofs.Kept.{GoodQuery}
 use Rattle.name_meaning.proofs.KeptItems.{ListIsKnown, GoodSelect, GoodItem, known-list, steady-list, named-list}
 use Rattle.name_meaning.proofs.NamedPlaces.{IsNamed, AreNamed}
-use Rattle.name_meaning.proofs.Settled.{settle-twice, settle-named}
+use Rattle.name_meaning.proofs.SettledKinds.{settle-twice, settle-named}
 use Rattle.name_meaning.proofs.SteadyMeant.{GoodMeant, GoodPart}
 
 -- ---- kinds

@@ -40,7 +40,7 @@ use Rattle.name_meaning.specs.laws.Known.{ReadIsKnown, ItemIsKnown, FromIsKnown,
 use Rattle.name_meaning.proofs.FactsOf.{facts-Join_alone, facts-Join, facts-Apply}
 use Rattle.name_meaning.proofs.Kept.{GoodQuery}
 use Rattle.name_meaning.proofs.NamedPlaces.{IsNamed, AreNamed, named-base, named-formed}
-use Rattle.name_meaning.proofs.Settled.{kinds-named_columns, settled-kinds}
+use Rattle.name_meaning.proofs.SettledKinds.{kinds-named_columns, settled-kinds}
 use Rattle.name_meaning.specs.declared.rule.Rule.TheVariants as rule
 use Rattle.name_meaning.proofs.KindsOf.{kinds-table_columns, items_kinds-append, kinds-plain, table_with, kinds-table, kinds-marked}
 use Rattle.name_meaning.proofs.KeptCores.{GoodOptional, GoodOptionalPart}

@@ -19,7 +19,7 @@ use Rattle.name_meaning.specs.laws.Facts.{both_facts, sub_facts}
 use Rattle.name_meaning.proofs.Every.{whole-kind}
 use Rattle.name_meaning.proofs.FactsOf.{sub_facts-append}
 use Rattle.name_meaning.proofs.NamedPlaces.{AreNamed}
-use Rattle.name_meaning.proofs.Settled.{settle_titles, settle_titles-append}
+use Rattle.name_meaning.proofs.SettledKinds.{settle_titles, settle_titles-append}
 use Rattle.name_meaning.proofs.SteadyMeant.{GoodMeant, named-both}
 use Rattle.name_meaning.proofs.KindsOf.{with_known}
 

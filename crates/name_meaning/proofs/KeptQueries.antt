@@ -20,7 +20,7 @@ use Rattle.name_meaning.specs.laws.Known.{HasItsKinds}
 use Rattle.name_meaning.proofs.FactsOf.{facts-Prov, facts-set, facts-limited}
 use Rattle.name_meaning.proofs.Kept.{GoodQuery}
 use Rattle.name_meaning.proofs.NamedPlaces.{IsNamed, AreNamed, length-place_names}
-use Rattle.name_meaning.proofs.Settled.{settle-united, settle-known, kinds-named_columns}
+use Rattle.name_meaning.proofs.SettledKinds.{settle-united, settle-known, kinds-named_columns}
 use Rattle.name_meaning.proofs.KindsOf.{kinds-set, kinds-limited, columns-joined, known-proved}
 
 -- ---- set operations

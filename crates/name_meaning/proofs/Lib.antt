@@ -47,7 +47,7 @@ mod ReadFroms
 mod ReadMeant
 mod ReadNodes
 mod ReadTrees
-pub mod Settled
+pub mod SettledKinds
 mod Standing
 mod SteadyMeant
 mod Sublinks

@@ -32,7 +32,7 @@ use Rattle.name_meaning.proofs.Froms.{range-in, position-in}
 use Rattle.name_meaning.specs.declared.rule.Rule.TheVariants as rule
 use Rattle.name_meaning.proofs.Every.{unbroken, unbroken-not}
 use Rattle.name_meaning.proofs.KindsOf.{kinds-set, kinds-limited}
-use Rattle.name_meaning.proofs.Settled.{both-same, settle-united, settled-second}
+use Rattle.name_meaning.proofs.SettledKinds.{both-same, settle-united, settled-second}
 use Rattle.bag_algebra.proofs.Truths.{left-true, right-true}
 
 pub record GoodBodyMeant (around : Around) (m : QueryMeant) : Type 0 where

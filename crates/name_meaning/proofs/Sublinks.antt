@@ -25,7 +25,7 @@ use Rattle.name_meaning.proofs.FormedParts.{none-formed}
 use Rattle.name_meaning.proofs.GoodMeant.{GoodMeant, GoodPart, IsPlain}
 use Rattle.name_meaning.specs.declared.rule.Rule.TheVariants as rule
 use Rattle.name_meaning.proofs.Every.{whole-kind, unbroken}
-use Rattle.name_meaning.proofs.Settled.{settled-twice, settled-united, settled-second}
+use Rattle.name_meaning.proofs.SettledKinds.{settled-twice, settled-united, settled-second}
 
 -- a query that breaks nothing has its kinds and is made well formed, and its provenance columns are columns of it
 pub record GoodQuery (around : Around) (m : QueryMeant) : Type 0 where

@@ -7,7 +7,6 @@ ghost use Rattle.bag_algebra.specs.declared.query.Query.TheVariants.{Prov};
 ghost use Rattle.name_meaning.specs.Cores.{distinct_if};
 ghost use Rattle.name_meaning.specs.Queries.{limited, set_of};
 
-use crate::nodes::together::beside;
 use bag_algebra::Query;
 use perm_values::{Key, List, NoMemory};
 use sql_tree::SetWord;

@@ -32,7 +32,7 @@ use Rattle.name_meaning.proofs.Impacts.{impact-stands, earlier-none}
 use Rattle.name_meaning.proofs.Named.{view-reads}
 use Rattle.name_meaning.proofs.TreeLaws.{query-answer, query-closed, query-wide}
 use Rattle.name_meaning.proofs.FittingTables.{tables-fit}
-use Rattle.name_meaning.proofs.Settled.{settled-names}
+use Rattle.name_meaning.proofs.SettledKinds.{settled-names}
 use Rattle.name_meaning.specs.laws.Formed.{IsAnswer}
 use Rattle.stored_provenance.specs.Held.{IsHeldTable}
 use Rattle.statement_meaning.specs.Ready.{CanExplain, CanLose, CanRun, IsReady}

@@ -32,7 +32,7 @@ use Rattle.name_meaning.specs.Statements.{alone, columns_of, has_boolean, name_b
 use Rattle.name_meaning.specs.Trees.{set_of_tree}
 use Rattle.name_meaning.specs.declared.rule.Rule.TheVariants as rule
 use Rattle.name_meaning.proofs.Every.{unbroken-not}
-use Rattle.name_meaning.proofs.Settled.{settled-kinds}
+use Rattle.name_meaning.proofs.SettledKinds.{settled-kinds}
 use Rattle.name_meaning.proofs.TreeLaws.{query-answer, query-closed, query-wide}
 use Rattle.name_meaning.proofs.Trees.{query-known}
 use Rattle.name_meaning.specs.laws.Formed.{IsAnswer}

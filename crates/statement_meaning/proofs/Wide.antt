@@ -22,7 +22,7 @@ use Rattle.name_meaning.specs.Froms.{names_of, settled_columns}
 use Rattle.name_meaning.specs.Meanings.{Around, OutColumn, query_means_at}
 use Rattle.name_meaning.specs.Statements.{alone, answer_of, name_breaks}
 use Rattle.name_meaning.specs.Trees.{query_of}
-use Rattle.name_meaning.proofs.Settled.{settled-names}
+use Rattle.name_meaning.proofs.SettledKinds.{settled-names}
 use Rattle.name_meaning.proofs.TreeLaws.{query-answer}
 use Rattle.statement_meaning.proofs.Ready.{names-whole}
 use Rattle.statement_meaning.proofs.Answered.{query-of}

@@ -5,8 +5,6 @@ ghost use Rattle.bag_algebra.specs.WellFormed.{is_additive};
 ghost use Rattle.tree_texts.specs.expressions.ExpressionTexts.{expr_bytes, texts_of, steps_of, arms_of, operated_with, steps_on, steps_text, arms_on, arms_text, first_level, truth_front, truth_back};
 ghost use Rattle.tree_texts.specs.expressions.Words.{first_between, later_between, reference_text, separated, unsaid_text};
 
-use crate::expressions::counts::behind;
-use crate::expressions::draft::Draft;
 use crate::expressions::operators::{
     back, first_between, front, is_said, later_between, separator,
 };

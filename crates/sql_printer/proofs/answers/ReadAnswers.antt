@@ -24,7 +24,7 @@ use Rattle.tree_texts.specs.Trees.{AreItems, IsCore, IsQuery, an_item_tree, no_i
 use Rattle.query_texts.specs.clauses.Names.{outermost}
 use Rattle.query_texts.specs.declared.clauses.tables.TableNames.{TableNames}
 use Rattle.query_texts.specs.forms.ShownQueries.{Framed, called, called_from, framed, selected, shown_answer, sources}
-use Rattle.name_meaning.proofs.Settled.{named-names}
+use Rattle.name_meaning.proofs.SettledKinds.{named-names}
 use Rattle.sql_printer.specs.rows.Printed.{Readings, columns_from, or_unread, printed_answer, readings, unread_item}
 use Rattle.sql_printer.specs.rows.PrintedExpressions.{before}
 use Rattle.sql_printer.specs.rows.Writable.{WritableQuery}

@@ -16,7 +16,7 @@ use Rattle.sql_tree.specs.declared.source.FromSource.TheVariants.{Named}
 use Rattle.sql_tree.specs.declared.source.FromTree.{FromTree}
 use Rattle.sql_tree.specs.declared.source.ScopeMark.TheVariants.{Plain}
 use Rattle.name_meaning.proofs.Equations.{fromitem-record, fromsource-named, token}
-use Rattle.name_meaning.proofs.Settled.{table-kinds}
+use Rattle.name_meaning.proofs.SettledKinds.{table-kinds}
 use Rattle.name_meaning.specs.Cores.{distinct_if, has_some}
 use Rattle.name_meaning.specs.Froms.{FromItemPart, first_item, from_all, in_clause, in_from, item_meant, read_nothing, read_table, read_view, table_columns, table_plain, names_of as names}
 use Rattle.name_meaning.specs.Meanings.{Around, Surroundings}

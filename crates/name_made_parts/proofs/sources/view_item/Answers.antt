@@ -2,7 +2,7 @@ use Rattle.std.specs.Prelude.{◌≡◌}
 use Rattle.perm_values.proofs.Results.{where_made}
 use Rattle.bag_algebra.specs.Kinds.{kinds_of}
 use Rattle.name_meaning.specs.Froms.{read_view}
-use Rattle.name_meaning.proofs.Settled.{named-names}
+use Rattle.name_meaning.proofs.SettledKinds.{named-names}
 use Rattle.name_made_parts.proofs.sources.view_item.Goals as goal
 
 pub returns-in-Plain : goal.returns-in-Plain
