@@ -1,4 +1,4 @@
-//! Reads the syntax tree of a script from its tokens (ISO/IEC 9075-2, cut to the grammar in `sql_grammar/specs/Grammar.antt`).
+//! Reads the syntax tree of a script from its tokens (ISO/IEC 9075-2, cut to the grammar in `sql_tree/specs/grammar/Grammar.antt`).
 #![tactic(auto)]
 
 mod expression;

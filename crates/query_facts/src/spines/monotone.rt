@@ -4,7 +4,7 @@ ghost use Rattle.query_facts.specs.monotone.Monotone as queries;
 use crate::monotone::is_monotone;
 use bag_algebra::{Inputs, JoinKind, Query};
 
-/// Whether the query is monotone (`is_monotone` of `monotone_queries`), found without going down its first inputs by recursion. It
+/// Whether the query is monotone (`is_monotone`), found without going down its first inputs by recursion. It
 /// takes no memory.
 #[cycle(along)]
 #[tactic(auto, using(crate::proofs::spines::Nodes::along, bag_algebra::proofs::Smaller::smaller))]
