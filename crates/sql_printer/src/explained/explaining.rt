@@ -21,8 +21,11 @@ use tree_texts::in_lines;
 /// Of a plain text that has more bytes, no other is looked for: it is more than people read.
 const LONGEST: usize = 65536;
 
-/// No text repeats a name that has more bytes: PostgreSQL cuts such a one off.
+/// No text gives an answer's column a name that has more bytes: PostgreSQL cuts such a one off.
 const LONGEST_NAME: usize = 63;
+
+/// No text repeats a table's or a column's name that has more bytes: a number may stand behind it.
+const LONGEST_REPEATED: usize = 57;
 
 /// EXPLAIN REWRITE: the text of a query without PROVENANCE that means what the answer means, whatever rows the catalog's tables
 /// have. Where the text in which tables and columns have their own names reads back as just that, it is this; else each column is
@@ -96,18 +99,19 @@ fn text_with_names(
     Ok(Some(in_lines(alloc, text.as_slice())?))
 }
 
-fn are_short(names: &[Chars]) -> bool {
-    names.iter().all(|name| name.bytes().len() <= LONGEST_NAME)
+fn are_short(names: &[Chars], longest: usize) -> bool {
+    names.iter().all(|name| name.bytes().len() <= longest)
 }
 
 /// Whether the names of a table and of its columns are short.
 fn has_short_names(table: &TableNames) -> bool {
-    table.name.bytes().len() <= LONGEST_NAME && are_short(table.columns.as_slice())
+    table.name.bytes().len() <= LONGEST_REPEATED
+        && are_short(table.columns.as_slice(), LONGEST_REPEATED)
 }
 
 /// Whether a text may repeat the names of all tables, of their columns and of an answer's.
 fn names_may_repeat(tables: &[TableNames], names: &[Chars]) -> bool {
-    tables.iter().all(|table| has_short_names(table)) && are_short(names)
+    tables.iter().all(|table| has_short_names(table)) && are_short(names, LONGEST_NAME)
 }
 
 /// The text with names, where its plain text is the other one; else the other one.
