@@ -11,7 +11,7 @@ use Rattle.bag_algebra.specs.ColumnItems.{column_items}
 use Rattle.bag_algebra.specs.Bags.{Row, Bag, SameBag, once, member}
 use Rattle.bag_algebra.specs.Meaning.{Database, denote, meaning, items_on}
 use Rattle.bag_algebra.specs.Means.{Means, Held, Witness, flat, gives, with_lists, with_witnesses, no_subs, base_means, unlisted_means, project_means, provenance_means}
-use Rattle.bag_algebra.specs.Outcome.{Outcome, Good, Bad, each, both, mapped}
+use Rattle.bag_algebra.specs.Outcome.{Outcome, Good, each, both, mapped}
 use Rattle.bag_algebra.specs.built.Patterns.{BaseOf, ProjectOf, DistinctOf, ProvOf}
 use Rattle.bag_algebra.specs.declared.query.Label.{Label}
 use Rattle.bag_algebra.specs.declared.query.Query.{end_of-Sublink}

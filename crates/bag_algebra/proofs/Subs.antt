@@ -1,5 +1,5 @@
 -- A list of sublinks that code finds empty has none.
-use Rattle.std.proofs.Common.{◌≡◌, Bool, true, false, List, [], ◌∷◌, refl, sym}
+use Rattle.std.proofs.Common.{◌≡◌, Bool, true, false, List, [], ◌∷◌, refl}
 use Rattle.std.specs.Prelude.{◌↔◌, IsTrue}
 use Rattle.bag_algebra.specs.built.Scopes.{without_subs}
 use Rattle.bag_algebra.specs.declared.query.Sublink.{Sublink}

@@ -1,5 +1,5 @@
 -- Each node of a query keeps what its inputs mean the same, up to the order of rows and of witness lists.
-use Rattle.std.proofs.Common.{◌≡◌, ℕ, Bool, true, false, cond, not, ◌&&◌, ◌||◌, List, [], ◌∷◌, ◌++◌, map, filter, refl, ap, ◌∙◌, subst}
+use Rattle.std.proofs.Common.{◌≡◌, ℕ, Bool, true, false, cond, not, ◌&&◌, ◌||◌, List, [], ◌∷◌, ◌++◌, filter, refl, ap, ◌∙◌, subst}
 use Rattle.std.specs.List.{list_any}
 use Rattle.perm_values.specs.Rows.{same_row, picked}
 use Rattle.perm_values.specs.declared.value.Value.{Value}

@@ -2,7 +2,6 @@
 use Rattle.std.proofs.Common.{◌≡◌, ◌≤◌, ℕ, ◌+◌, Bool, true, false, cond, List, [], ◌∷◌, ◌++◌, length, unwrap_or, nat_eq, count_by, flat_map, take, length-append, length-take, refl, sym, ap, ◌∙◌, arith}
 use Rattle.std.proofs.lemmas.List.Sums.{count_by-le-length, sum_by_push}
 use Rattle.std.specs.Cmp.Lexicographic.{pointwise, nat_list_eq_equiv, bytes_decides}
-use Rattle.std.specs.Map.{lookup}
 use Rattle.perm_values.proofs.Steps.{unwrap-cond}
 use Rattle.bag_algebra.specs.PlaceNames.{relations_of}
 use Rattle.bag_algebra.specs.declared.place.Place.{Place}

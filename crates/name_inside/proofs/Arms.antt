@@ -1,6 +1,6 @@
 -- What is added where an expression has one form or another, of what is added for its parts.
 use Rattle.std.specs.Prelude.{◌≡◌, ⊤, ℕ, ℤ, Bool, List, [], ◌∷◌, ◌++◌, map, flat_map, Option, Some, None, option_map}
-use Rattle.std.proofs.Common.{refl, ap, sym, subst, ◌∙◌}
+use Rattle.std.proofs.Common.{ap, sym, subst, ◌∙◌}
 use Rattle.null_logic.specs.declared.compare.Compare.{Compare}
 use Rattle.null_logic.specs.declared.operator.Operator.{Operator}
 use Rattle.null_logic.specs.declared.truth.Truth.{Truth}
@@ -16,7 +16,7 @@ use Rattle.sql_tree.specs.declared.name.ColRef.{ColRef}
 use Rattle.sql_tree.specs.declared.query.QueryTree.{QueryTree}
 use Rattle.name_meaning.proofs.Equations.{ExprBodyFrame, token, exprstep-record, armtree-record}
 use Rattle.name_meaning.proofs.Forms.{means-null, means-nullof, means-integer, means-text, means-truth, means-column, means-paren, means-nots, means-signs, means-logic, means-chain, means-compared, means-like, means-between, means-inlist, means-inquery, means-quantified, means-isnull, means-istruth, means-isdistinct, means-case-none, means-case-some, means-coalesce, means-nullif, means-aggregate-none, means-aggregate-some, means-exists, means-scalar}
-use Rattle.name_meaning.specs.Expressions.{ArmPart, StepPart, body_step}
+use Rattle.name_meaning.specs.Expressions.{body_step}
 use Rattle.name_meaning.specs.Meanings.{Surroundings, means_at, query_means_at}
 use Rattle.name_meaning.specs.Sublinks.{around_of}
 use Rattle.name_meaning.specs.Trees.{arm_of, part_of, query_of, step_of}

@@ -1,10 +1,9 @@
 -- Nothing stands inside an expression that breaks nothing where no sublink may stand.
 use Rattle.std.specs.Prelude.{◌≡◌, ⊤, ℕ, Bool, true, false, cond, List, [], ◌∷◌, map, flat_map, Option, Some, None}
-use Rattle.std.proofs.Common.{refl, sym, ◌∙◌, true≢false}
+use Rattle.std.proofs.Common.{refl, ◌∙◌, true≢false}
 use Rattle.perm_catalog.specs.Contents.{Contents}
 use Rattle.perm_values.specs.declared.kind.Kind.{Kind}
 use Rattle.perm_values.specs.declared.kind.Kind.TheVariants as kind
-use Rattle.bag_algebra.specs.declared.query.SubKind.{SubKind}
 use Rattle.null_logic.specs.declared.compare.Compare.TheVariants.{Equal, NotEqual}
 use Rattle.sql_tree.specs.declared.expression.ExprBody.TheOpen.{ExprBody-F}
 use Rattle.sql_tree.specs.declared.expression.ExprTree.{ExprTree}
@@ -16,11 +15,11 @@ use Rattle.name_meaning.specs.Froms.{FromItemPart, FromPart, JoinPart, SourcePar
 use Rattle.name_meaning.specs.Items.{SelectPart}
 use Rattle.name_meaning.specs.Meanings.{Meant, Part, QueryPart, Surroundings, means_at}
 use Rattle.name_meaning.specs.Queries.{SetStepPart}
-use Rattle.name_meaning.specs.Sublinks.{around_of, breaking, exists_meant, in_argument, in_tested, scalar_meant, tested_looked, tested_meant, tested_unlooked}
+use Rattle.name_meaning.specs.Sublinks.{around_of, breaking, exists_meant, in_tested, scalar_meant, tested_looked, tested_unlooked}
 use Rattle.name_meaning.specs.Trees.{part_of}
 use Rattle.name_meaning.proofs.Every.{every-flat_map, every-map}
 use Rattle.name_meaning.proofs.Induction.{AreKept, BodyParts, kept-part}
-use Rattle.name_inside.specs.Held.{Held, held, held_arm, held_at, held_optional, held_step}
+use Rattle.name_inside.specs.Held.{held, held_arm, held_at, held_step}
 use Rattle.name_inside.proofs.Forms.{BarePart, IsBare, bare-over, last-some, over-body}
 use Rattle.name_meaning.specs.declared.rule.Rule.TheVariants as rule
 

@@ -1,6 +1,6 @@
 -- Over which parts queries, set operations, cores and FROM are.
-use Rattle.std.specs.Prelude.{◌≡◌, ℕ, ℤ, Bool, true, false, cond, List, [], ◌∷◌, ◌++◌, map, flat_map, Option, Some, None, option_map, suc, length, ◌+◌, ◌<◌}
-use Rattle.std.proofs.Common.{refl, ap, sym, subst, ◌∙◌, true≢false, arith, take, get_or}
+use Rattle.std.specs.Prelude.{◌≡◌, ℕ, ℤ, Bool, true, false, cond, List, [], ◌∷◌, ◌++◌, map, flat_map, Option, Some, None, option_map, length, ◌+◌, ◌<◌}
+use Rattle.std.proofs.Common.{refl, ap, sym, subst, ◌∙◌, true≢false, take, get_or}
 use Rattle.std.specs.Option.{option_map_or}
 use Rattle.perm_values.proofs.Lists.{front-none, back-none, map-taken}
 use Rattle.bag_algebra.specs.declared.query.Query.{Query}
@@ -23,7 +23,7 @@ use Rattle.sql_tree.specs.declared.source.JoinStep.{JoinStep, out-JoinStep}
 use Rattle.sql_tree.specs.declared.source.ScopeMark.{ScopeMark}
 use Rattle.name_meaning.proofs.Equations.{token, selectitem-star, selectitem-tablestar, selectitem-value, fromsource-named, fromsource-inner}
 use Rattle.name_meaning.specs.Cores.{BodyPart, Clauses, clause_breaks, core_clauses, core_over, core_seen, core_unlooked, group_break, group_scope, has_some, word_breaks}
-use Rattle.name_meaning.specs.Froms.{FromMeant, FromPart, ItemMeant, JoinPart, Read, SourcePart, beside_from, both_known, first_item, from_all, from_more, in_on, item_meant, join_all, join_item, label_of, optional_breaks, on_meant, read_named, read_of, scope_items, scope_name, table_columns, applied, beside_items, in_from, joined_item, in_clause, optional_inside, optional_meant, no_from}
+use Rattle.name_meaning.specs.Froms.{FromMeant, FromPart, ItemMeant, JoinPart, Read, SourcePart, beside_from, both_known, first_item, from_all, from_more, in_on, item_meant, join_all, label_of, optional_breaks, on_meant, read_named, read_of, scope_items, scope_name, table_columns, applied, beside_items, in_from, in_clause, optional_inside, optional_meant, no_from}
 use Rattle.name_meaning.proofs.Lateral.{join-lateral, join-plain, lateral_item, plain_item, plainly}
 use Rattle.sql_tree.specs.Regular.{is_lateral}
 use Rattle.sql_tree.specs.declared.source.JoinWord.{JoinWord}

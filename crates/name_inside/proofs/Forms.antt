@@ -11,18 +11,15 @@ use Rattle.perm_values.proofs.Lists.{front-none, back-none}
 use Rattle.bag_algebra.specs.declared.expr.Expr.{Expr}
 use Rattle.bag_algebra.specs.declared.expr.Expr.TheVariants.{Op, IsNull, IsTruth, Same}
 use Rattle.bag_algebra.specs.declared.query.SubKind.{SubKind}
-use Rattle.perm_catalog.specs.Contents.{Contents}
 use Rattle.sql_tree.specs.declared.expression.AggWord.{AggWord}
 use Rattle.sql_tree.specs.declared.expression.ExprBody.TheOpen.{ExprBody-F}
-use Rattle.sql_tree.specs.declared.expression.ExprTree.{ExprTree}
-use Rattle.contribution.proofs.WhereGood.{Every, every-append}
+use Rattle.contribution.proofs.WhereGood.{Every}
 use Rattle.name_meaning.proofs.Equations.{ExprBodyFrame}
-use Rattle.name_meaning.specs.Expressions.{ArmPart, Body, StepPart, arm_operands, body_step, case_made, case_meant, chain_gives, chain_made, else_operand, first_need, first_of, in_kind, negated_if, null_meant, second_of, step_operand, times}
+use Rattle.name_meaning.specs.Expressions.{ArmPart, StepPart, arm_operands, body_step, case_made, case_meant, chain_gives, chain_made, else_operand, first_need, first_of, in_kind, negated_if, null_meant, second_of, step_operand, times}
 use Rattle.name_meaning.specs.Meanings.{Inside, Meant, Part, QueryMeant, QueryPart, Surroundings, both_inside, broken_if, means_at, nothing_inside, seen_kind}
 use Rattle.name_meaning.specs.Operands.{Operand, first_unfit, gives_of, node, operand, operated, need_of, parts_breaks, parts_inside, unfit_break}
 use Rattle.name_meaning.specs.Scopes.{look_up}
 use Rattle.name_meaning.specs.Sublinks.{aggregate_meant, around_of, breaking, column_meant, exists_meant, if_standing, in_argument, in_tested, is_one_column, scalar_meant, takes_kind, tested_break, tested_looked, tested_meant, tested_unlooked}
-use Rattle.name_meaning.specs.Trees.{part_of}
 use Rattle.name_meaning.specs.declared.answer.Break.{Break}
 use Rattle.name_meaning.specs.declared.need.Gives.{Gives}
 use Rattle.name_meaning.specs.declared.need.Gives.TheVariants.{Always as always, Common as common}
@@ -30,8 +27,6 @@ use Rattle.name_meaning.specs.declared.need.Need.{Need}
 use Rattle.name_meaning.specs.declared.need.Need.TheVariants.{OfKind as of_kind, Alike as alike, Free as free}
 use Rattle.name_meaning.specs.declared.scope.Found.{Found}
 use Rattle.name_meaning.specs.declared.scope.Found.TheVariants.{Absent as absent, Ambiguous as ambiguous, Column as found}
-use Rattle.name_meaning.proofs.Every.{every-map, every-flat_map}
-use Rattle.name_meaning.proofs.Induction.{AreKept, BodyParts, kept-part}
 use Rattle.name_inside.specs.Held.{Held, all_breaks, all_inside, held, held_arm, held_at, held_optional, held_query, held_step}
 use Rattle.name_inside.proofs.Over.{IsOver, breaks-append, breaks-one, both-nothing, inside-append, inside-one}
 use Rattle.name_meaning.specs.declared.rule.Rule.TheVariants as rule

@@ -1,5 +1,5 @@
 -- A part that breaks nothing holds what its own parts hold.
-use Rattle.std.specs.Prelude.{◌≡◌, ℕ, List, [], ◌∷◌, ◌++◌, map, flat_map}
+use Rattle.std.specs.Prelude.{◌≡◌, ℕ, List, [], ◌∷◌, ◌++◌}
 use Rattle.std.proofs.Common.{refl, ap, sym, subst, ◌∙◌, append_assoc, append-nil}
 use Rattle.perm_values.proofs.Lists.{front-none, back-none}
 use Rattle.name_meaning.specs.Meanings.{Inside, both_inside, nothing_inside}

@@ -1,5 +1,5 @@
 -- What an item of FROM reads, under its name.
-use Rattle.std.specs.Prelude.{◌≡◌, ℕ, List, [], ◌∷◌, Option, Some, None, Ok, Err}
+use Rattle.std.specs.Prelude.{◌≡◌, ℕ, List, [], ◌∷◌, Some, None, Err}
 use Rattle.std.proofs.Common.{ap, sym, subst, ◌∙◌}
 use Rattle.perm_values.proofs.Lists.{front-none}
 use Rattle.perm_catalog.specs.Contents.{Contents}

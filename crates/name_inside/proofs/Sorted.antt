@@ -1,6 +1,6 @@
 -- Names put in order, from the last.
 use Rattle.std.specs.Prelude.{◌≡◌, ℕ, suc, ◌+◌, ◌-◌, ◌<◌, ◌≤◌, List, [], ◌∷◌, length}
-use Rattle.std.proofs.Common.{refl, ap, sym, ◌∙◌, drop, get_or, drop-cons, arith}
+use Rattle.std.proofs.Common.{ap, sym, ◌∙◌, drop, get_or, drop-cons}
 use Rattle.name_meaning.specs.Statements.{all_noted, noted}
 
 pub record NotedFrom (names : List (List ℕ)) (left : ℕ) (sorted : List (List ℕ)) : Type 0 where

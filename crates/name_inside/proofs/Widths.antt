@@ -1,6 +1,6 @@
 -- The first query that has too many columns.
-use Rattle.std.specs.Prelude.{◌≡◌, ℕ, ◌+◌, ◌<◌, Bool, true, false, cond, List, [], ◌∷◌, length, nat_lt, find, Option, Some, None, Result, Ok, Err}
-use Rattle.std.proofs.Common.{refl, ap, sym, ◌∙◌, drop, get_or}
+use Rattle.std.specs.Prelude.{◌≡◌, ℕ, ◌+◌, ◌<◌, Bool, true, false, cond, List, [], ◌∷◌, length, nat_lt, find, Option, Some, Err}
+use Rattle.std.proofs.Common.{ap, ◌∙◌, drop, get_or}
 use Rattle.std.specs.Option.{option_map_or}
 use Rattle.perm_values.proofs.Lists.{dropped}
 use Rattle.name_meaning.specs.Meanings.{broken}

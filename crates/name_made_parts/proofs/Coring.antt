@@ -1,5 +1,5 @@
 -- What a core is made of, its clauses made one after the other.
-use Rattle.std.specs.Prelude.{◌≡◌, ℕ, ◌+◌, Bool, true, false, cond, List, [], ◌∷◌, ◌++◌, length, map, flat_map, drop, Option, Some, None, option_map}
+use Rattle.std.specs.Prelude.{◌≡◌, ℕ, ◌+◌, Bool, true, false, cond, List, [], ◌∷◌, ◌++◌, length, flat_map, drop, Option, Some, None, option_map}
 use Rattle.std.specs.Option.{option_map_or}
 use Rattle.std.proofs.Common.{refl, ap, sym, subst, ◌∙◌, arith, append_assoc}
 use Rattle.bag_algebra.specs.declared.expr.Expr.{Expr}
@@ -7,7 +7,6 @@ use Rattle.bag_algebra.specs.declared.expr.Item.{Item}
 use Rattle.bag_algebra.specs.declared.query.Aggr.{Aggr}
 use Rattle.bag_algebra.specs.declared.query.Query.{Query}
 use Rattle.bag_algebra.specs.declared.query.Query.TheVariants.{Project}
-use Rattle.bag_algebra.specs.declared.query.Sublink.{Sublink}
 use Rattle.perm_catalog.specs.Contents.{Contents}
 use Rattle.perm_values.specs.declared.kind.Kind.{Kind}
 use Rattle.perm_values.specs.declared.kind.Kind.TheVariants as kind
@@ -17,10 +16,10 @@ use Rattle.sql_tree.specs.declared.name.Name.{Name}
 use Rattle.sql_tree.specs.declared.query.SelectItem.{SelectItem}
 use Rattle.sql_tree.specs.declared.query.SelectItem.TheVariants as i
 use Rattle.sql_tree.specs.declared.query.Core.{Core, out-Core}
-use Rattle.name_meaning.specs.Cores.{BodyPart, aggregated_input, before_list, clause_breaks, core_clauses, core_over, core_seen, core_unlooked, distinct_if, filtered, group_break, group_scope, has_some, optional_built, settle_known, word_breaks}
-use Rattle.name_meaning.specs.Froms.{FromMeant, from_all, in_clause, optional_breaks, optional_meant}
+use Rattle.name_meaning.specs.Cores.{BodyPart, aggregated_input, core_seen, core_unlooked, distinct_if, filtered, group_break, group_scope, has_some, optional_built, settle_known, word_breaks}
+use Rattle.name_meaning.specs.Froms.{from_all, in_clause, optional_breaks, optional_meant}
 use Rattle.name_meaning.specs.Items.{Made, SelectMeant, SelectPart, all_known, items_breaks, made_items, named_from, star_meant, table_star_meant, title, value_meant}
-use Rattle.name_meaning.specs.Meanings.{Around, Before, Built, Meant, Part, QueryMeant, Surroundings, is_whole, means_at}
+use Rattle.name_meaning.specs.Meanings.{Around, Meant, Part, QueryMeant, Surroundings, is_whole, means_at}
 use Rattle.name_meaning.specs.Operands.{behind}
 use Rattle.name_meaning.specs.Scopes.{ScopeItem, scope_of}
 use Rattle.name_meaning.specs.Sublinks.{nothing_before}
@@ -28,16 +27,14 @@ use Rattle.name_meaning.specs.Trees.{core_of, item_of, part_of}
 use Rattle.name_meaning.specs.declared.answer.Break.{Break}
 use Rattle.name_meaning.specs.declared.scope.Scope.{Scope}
 use Rattle.name_meaning.proofs.Equations.{token, selectitem-star, selectitem-tablestar, selectitem-value}
-use Rattle.name_meaning.specs.nodes.Cored.{clauses_over, condition_over, listed_over}
+use Rattle.name_meaning.specs.nodes.Cored.{clauses_over, condition_over}
 use Rattle.name_meaning.specs.nodes.Listed.{MakesItems, widths}
 use Rattle.name_meaning.specs.nodes.Makes.{Makes, MakesQuery, nothing_found}
 use Rattle.name_meaning.specs.declared.nodes.cores.Clauses.{Clauses}
-use Rattle.name_meaning.specs.declared.nodes.cores.Condition.{Condition}
 use Rattle.name_meaning.specs.declared.nodes.within.Within.{Within}
 use Rattle.name_meaning.proofs.ItemLists.{more-listed}
-use Rattle.name_made_parts.specs.Cored.{AreKept, Keeps, MakesClauses, MakesList, MakesSelected, condition_of, condition_part, core_over_items, having_part, in_groups, in_rows, items_meant, kept_of, select_parts, source_parts, sources_meant, own_breaks}
+use Rattle.name_made_parts.specs.Cored.{Keeps, MakesClauses, condition_of, condition_part, core_over_items, having_part, items_meant, kept_of, select_parts, source_parts, sources_meant, own_breaks}
 use Rattle.name_made_parts.specs.Sources.{IsScope}
-use Rattle.name_made_parts.specs.declared.asked.cores.Kept.{Kept}
 use Rattle.name_made_parts.proofs.Settling.{list-settles, settled-list}
 use Rattle.name_meaning.proofs.Opened.{core-is}
 

@@ -17,7 +17,6 @@ use Rattle.name_meaning.specs.Cores.{BodyPart, settle, settle_known}
 use Rattle.name_meaning.specs.Meanings.{Around, OutColumn, QueryMeant, query_means_at}
 use Rattle.name_meaning.specs.Queries.{SetStepPart, asks_provenance, keys_breaks, keys_of, limited, query_seen, set_chain, set_joined, set_of, may_not_ask}
 use Rattle.name_meaning.specs.Trees.{core_of, query_of, set_of_tree, set_step_of}
-use Rattle.name_meaning.specs.declared.answer.Break.{Break}
 use Rattle.name_meaning.proofs.Equations.{token, querytree-record, settree-chain, settree-core, settree-paren, setstep-record}
 use Rattle.name_meaning.proofs.SettledKinds.{settle-twice}
 use Rattle.name_meaning.specs.nodes.Chained.{Serves}

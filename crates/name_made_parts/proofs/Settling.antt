@@ -10,9 +10,9 @@ use Rattle.perm_values.proofs.Lists.{front-none, back-none}
 use Rattle.sql_tree.specs.declared.expression.ExprBody.TheOpen.{SelectItem-F}
 use Rattle.sql_tree.specs.declared.name.Name.{Name}
 use Rattle.sql_tree.specs.declared.query.SelectItem.{SelectItem, out-SelectItem}
-use Rattle.name_meaning.specs.Cores.{settle, settle_known}
-use Rattle.name_meaning.specs.Items.{Titled, Made, SelectMeant, SelectPart, all_known, columns_meant, first_wanted, item_step, items_breaks, made_before, made_items, named_from, no_columns, star_meant, table_star_meant, titled, value_meant, value_made, width_of_item}
-use Rattle.name_meaning.specs.Meanings.{Before, Built, Meant, OutColumn, Surroundings, is_whole, seen_kind, settled}
+use Rattle.name_meaning.specs.Cores.{settle_known}
+use Rattle.name_meaning.specs.Items.{Titled, Made, SelectMeant, all_known, columns_meant, first_wanted, item_step, items_breaks, made_before, made_items, named_from, no_columns, star_meant, table_star_meant, titled, value_meant, value_made, width_of_item}
+use Rattle.name_meaning.specs.Meanings.{Before, Meant, Surroundings, is_whole, seen_kind, settled}
 use Rattle.name_meaning.specs.Operands.{behind}
 use Rattle.name_meaning.specs.Scopes.{Placed, item_columns, placed}
 use Rattle.name_meaning.specs.Trees.{item_of}

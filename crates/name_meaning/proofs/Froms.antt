@@ -51,7 +51,7 @@ use Rattle.name_meaning.specs.declared.answer.Break.{Break}
 use Rattle.name_meaning.specs.declared.scope.Scope.{Scope}
 use Rattle.name_meaning.specs.declared.scope.ScopeColumn.{ScopeColumn}
 use Rattle.name_meaning.specs.laws.Known.{column_kinds_of, items_kinds}
-use Rattle.name_meaning.specs.laws.Standing.{StandAt, HoldsScope, RowsHold, AggregatesStand}
+use Rattle.name_meaning.specs.laws.Standing.{HoldsScope, RowsHold, AggregatesStand}
 use Rattle.name_meaning.proofs.Arms.{GoodOptional}
 use Rattle.name_meaning.proofs.Cores.{formed-condition}
 use Rattle.name_meaning.proofs.Sublinks.{GoodQuery}

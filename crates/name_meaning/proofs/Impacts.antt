@@ -9,7 +9,7 @@ use Rattle.perm_values.specs.declared.kind.Kind.TheVariants.{Boolean}
 use Rattle.perm_values.proofs.Lists.{front-none, back-none}
 use Rattle.bag_algebra.proofs.TablesRead.{each_table-from_told, each_table-kept}
 use Rattle.bag_algebra.specs.built.Forms.{subs_kinds}
-use Rattle.bag_algebra.specs.TablesRead.{EachTable, TableRead, tables_read}
+use Rattle.bag_algebra.specs.TablesRead.{EachTable, tables_read}
 use Rattle.bag_algebra.specs.WellFormed.{HasKind}
 use Rattle.bag_algebra.specs.declared.expr.Expr.{Expr}
 use Rattle.bag_algebra.specs.declared.query.Query.{Query}
@@ -20,7 +20,6 @@ use Rattle.perm_catalog.specs.Columns.{column_kinds}
 use Rattle.perm_catalog.specs.Contents.{Contents}
 use Rattle.perm_catalog.specs.Sound.{IsHeldRead, IsSound, IsSoundView}
 use Rattle.perm_catalog.specs.declared.entries.TableEntry.{TableEntry}
-use Rattle.perm_catalog.specs.declared.entries.ViewEntry.{ViewEntry}
 use Rattle.sql_tree.specs.Regular.{IfThere, RegularExpr, RegularStatementBody}
 use Rattle.sql_tree.specs.declared.expression.ExprTree.{ExprTree}
 use Rattle.sql_tree.specs.declared.name.Name.{Name}

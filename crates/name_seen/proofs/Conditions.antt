@@ -9,7 +9,6 @@ use Rattle.name_meaning.specs.Froms.{condition_breaks, optional_meant}
 use Rattle.name_meaning.specs.Meanings.{Meant, Part, Surroundings, broken_if, means_at, seen_kind, unites}
 use Rattle.name_meaning.specs.Sublinks.{breaking, nothing_before}
 use Rattle.name_meaning.specs.Trees.{part_of}
-use Rattle.name_meaning.specs.declared.answer.Break.{Break}
 use Rattle.name_meaning.proofs.FactsOf.{both_facts-none}
 use Rattle.name_seen_parts.specs.Seen.{first_or, seen}
 use Rattle.name_seen_parts.specs.declared.refusal.Refusal.{Refusal}
@@ -19,7 +18,7 @@ use Rattle.name_seen_parts.specs.Told.{Tells}
 use Rattle.name_seen_parts.proofs.Firsts.{first-stays, none-broken}
 use Rattle.name_seen_cores.specs.from.Added.{facts_in}
 use Rattle.name_seen_cores.specs.declared.from.facts.Facts.{Facts as Gathered}
-use Rattle.name_seen_cores.specs.Behind.{ConditionSeen, ConditionWhole, optional_part}
+use Rattle.name_seen_cores.specs.Behind.{ConditionSeen, ConditionWhole}
 use Rattle.name_seen_cores.specs.Expressed.{ExpressionSeen}
 use Rattle.name_seen_cores.proofs.Alone.{told-so}
 use Rattle.name_meaning.specs.declared.rule.Rule.TheVariants as rule

@@ -1,5 +1,5 @@
 -- What trees of FROM mean, of what their parts mean.
-use Rattle.std.specs.Prelude.{◌≡◌, ℕ, List, ◌∷◌, ◌++◌, map, Option, Err, [], Ok}
+use Rattle.std.specs.Prelude.{◌≡◌, ℕ, List, ◌∷◌, ◌++◌, map, Option, Err, []}
 use Rattle.std.proofs.Common.{ap, sym, ◌∙◌}
 use Rattle.perm_catalog.specs.Contents.{Contents}
 use Rattle.sql_tree.specs.declared.expression.ExprTree.{ExprTree}
@@ -26,9 +26,8 @@ use Rattle.name_seen_cores.specs.from.Queried.{FromWhole, QuerySeen}
 use Rattle.name_seen_cores.specs.declared.from.facts.Facts.{Facts as Gathered}
 use Rattle.name_seen_cores.specs.from.Readings.{ItemSeen, ReadSeen}
 use Rattle.name_seen_cores.specs.Behind.{optional_part}
-use Rattle.name_seen_parts.proofs.Firsts.{first-stays_first, none-broken}
-use Rattle.name_meaning.proofs.Opened.{join-is, opened_from_item}
-use Rattle.name_seen_parts.specs.Seen.{first_or}
+use Rattle.name_seen_parts.proofs.Firsts.{first-stays_first}
+use Rattle.name_meaning.proofs.Opened.{join-is}
 
 pub from-means : (c : Contents) (tree : FromTree) (outer : List Scope) (earlier : List (List ℕ))
     → (from_of c tree).means outer earlier

@@ -1,5 +1,5 @@
 -- What the code finds of a source with its joins is what these mean.
-use Rattle.std.specs.Prelude.{◌≡◌, ℕ, Bool, true, false, cond, List, [], ◌∷◌, ◌++◌, map, Option, Some, None, option_map, IfOk, IsErrAnd, OnOk, Result, Ok, Err}
+use Rattle.std.specs.Prelude.{◌≡◌, ℕ, Bool, true, false, cond, List, [], ◌∷◌, ◌++◌, Option, Some, None, option_map, IfOk, IsErrAnd, OnOk, Result, Ok, Err}
 use Rattle.std.proofs.Common.{refl, ap, sym, subst, ◌∙◌, append_assoc, append-nil}
 use Rattle.perm_catalog.specs.declared.column.Column.{Column}
 use Rattle.name_meaning.specs.Froms.{FromMeant, FromPart, ItemMeant, JoinPart, first_item, from_all, scope_items, join_all, join_item, join_kind, on_meant, optional_breaks, both_known, table_columns, applied, joined_item, in_clause, optional_meant, on_built}

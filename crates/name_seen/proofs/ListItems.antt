@@ -1,5 +1,5 @@
 -- Items of a SELECT list, where they stand.
-use Rattle.std.specs.Prelude.{◌≡◌, ℕ, suc, Bool, List, [], ◌∷◌, ◌++◌, length, Option, Some, Result, Ok, Err}
+use Rattle.std.specs.Prelude.{◌≡◌, ℕ, suc, Bool, List, [], ◌∷◌, ◌++◌, length, Option, Result, Err}
 use Rattle.std.proofs.Common.{refl, ap, sym, subst, ◌∙◌}
 use Rattle.perm_catalog.specs.Contents.{Contents}
 use Rattle.perm_values.specs.declared.kind.Kind.{Kind}
@@ -7,13 +7,13 @@ use Rattle.sql_tree.specs.declared.expression.ExprTree.{ExprTree}
 use Rattle.sql_tree.specs.declared.name.Name.{Name}
 use Rattle.sql_tree.specs.declared.query.SelectItem.{SelectItem}
 use Rattle.sql_tree.specs.declared.query.SelectItem.TheVariants as i
-use Rattle.name_meaning.specs.Items.{SelectMeant, SelectPart, Titled, first_wanted, named_from, star_meant, table_star_meant, title, value_meant}
+use Rattle.name_meaning.specs.Items.{SelectMeant, Titled, first_wanted, named_from, star_meant, table_star_meant, title, value_meant}
 use Rattle.name_meaning.specs.Meanings.{Meant, Surroundings, means_at, seen_kind, settled}
 use Rattle.name_meaning.specs.Trees.{item_of, part_of}
 use Rattle.name_meaning.specs.declared.answer.Break.{Break}
 use Rattle.name_meaning.specs.declared.scope.Scope.{Scope}
 use Rattle.name_meaning.proofs.Equations.{token, selectitem-star, selectitem-tablestar, selectitem-value}
-use Rattle.name_seen_parts.specs.Seen.{first_or, seen}
+use Rattle.name_seen_parts.specs.Seen.{first_or}
 use Rattle.name_seen_parts.specs.declared.refusal.Refusal.{Refusal}
 use Rattle.name_seen_parts.specs.declared.refusal.Refusal.TheVariants.{Break as Broken, NoMemory}
 use Rattle.name_seen_parts.proofs.Arms.{means-is}

@@ -1,5 +1,5 @@
 -- Set operations and queries, whose parts were answered or refused.
-use Rattle.std.specs.Prelude.{◌≡◌, ℕ, ℤ, Bool, true, false, cond, List, [], ◌++◌, map, Option, Result, Ok, Err}
+use Rattle.std.specs.Prelude.{◌≡◌, ℕ, ℤ, Bool, true, false, cond, List, [], ◌++◌, Option, Result, Err}
 use Rattle.std.proofs.Common.{refl, ap, sym, subst, ◌∙◌}
 use Rattle.perm_catalog.specs.Contents.{Contents}
 use Rattle.perm_catalog.specs.Sound.{IsSound}
@@ -9,13 +9,10 @@ use Rattle.name_meaning.specs.Cores.{BodyPart}
 use Rattle.name_meaning.specs.Meanings.{Around, QueryMeant, query_means_at}
 use Rattle.name_meaning.specs.Queries.{asks_provenance, keys_breaks, query_seen}
 use Rattle.name_meaning.specs.Trees.{query_of, set_of_tree}
-use Rattle.name_meaning.specs.declared.answer.Break.{Break}
 use Rattle.name_meaning.specs.laws.Known.{HasItsKinds}
 use Rattle.name_meaning.proofs.Trees.{query-known}
-use Rattle.name_seen_parts.specs.Seen.{first_or}
 use Rattle.name_seen_parts.specs.declared.refusal.Refusal.{Refusal}
 use Rattle.name_seen_parts.specs.declared.refusal.Refusal.TheVariants.{Break as Broken, NoMemory}
-use Rattle.name_seen_parts.specs.declared.clauses.column.ShownColumn.{ShownColumn}
 use Rattle.name_seen_parts.proofs.Firsts.{first-stays}
 use Rattle.name_seen_cores.specs.from.Queried.{ColumnsSeen, QuerySeen}
 use Rattle.name_seen_cores.specs.declared.from.facts.Facts.{Facts as Gathered}

@@ -2,15 +2,13 @@
 use Rattle.std.specs.Prelude.{◌≡◌, ℕ, Bool, true, false, cond, List, [], ◌∷◌, ◌++◌, flat_map, map, Option, Some, None, option_map, Ok, Err}
 use Rattle.std.specs.Option.{option_map_or}
 use Rattle.std.proofs.Common.{refl, ap, sym, ◌∙◌}
-use Rattle.bag_algebra.specs.built.Openings.{Distinct-is, Project_with-is}
-use Rattle.bag_algebra.specs.declared.expr.Item.{Item}
 use Rattle.bag_algebra.specs.declared.query.Aggr.{Aggr}
 use Rattle.bag_algebra.specs.declared.query.Query.{Query}
 use Rattle.bag_algebra.specs.declared.query.Query.TheVariants.{Project}
 use Rattle.bag_algebra.specs.declared.query.Sublink.{Sublink}
 use Rattle.perm_values.specs.declared.kind.Kind.{Kind}
 use Rattle.sql_tree.specs.declared.name.ColRef.{ColRef}
-use Rattle.name_meaning.specs.Cores.{Clauses, aggregated_input, before_list, clauses_query, core_clauses, core_over, core_seen, core_unlooked, distinct_if, filtered, group_break, group_scope, list_columns, optional_built, settle_known, word_breaks}
+use Rattle.name_meaning.specs.Cores.{Clauses, aggregated_input, before_list, clauses_query, core_clauses, core_over, core_seen, core_unlooked, filtered, group_break, group_scope, list_columns, optional_built, settle_known, word_breaks}
 use Rattle.name_meaning.specs.Froms.{FromMeant, in_clause, optional_breaks, optional_meant}
 use Rattle.name_meaning.specs.Items.{Made, SelectPart, items_breaks, made_items, named_from}
 use Rattle.name_meaning.specs.Meanings.{Around, Meant, Part, QueryMeant, is_whole}

@@ -1,5 +1,5 @@
 -- The first break of names and values, gone through from the left.
-use Rattle.std.specs.Prelude.{◌≡◌, ℕ, suc, ◌+◌, ◌<◌, Bool, true, false, not, ◌||◌, List, [], ◌∷◌, ◌++◌, length, map, Option, Some, None, Result, Ok, Err, ◌≤◌, flat_map}
+use Rattle.std.specs.Prelude.{◌≡◌, ℕ, ◌+◌, ◌<◌, Bool, true, false, not, ◌||◌, List, [], ◌∷◌, ◌++◌, length, Option, Some, Result, Ok, Err, ◌≤◌, flat_map}
 use Rattle.std.proofs.Common.{refl, true≢false, ap, sym, subst, ◌∙◌, drop, take, get_or, ◌-◌, arith, length-drop}
 use Rattle.std.proofs.lemmas.Bool.{or_left, or_right, or_from, not-true, not-false}
 use Rattle.std.proofs.lemmas.List.{map_more, reverse-append, take-append-drop, take_all}

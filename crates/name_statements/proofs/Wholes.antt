@@ -1,5 +1,5 @@
 -- A whole query, made and within the limits.
-use Rattle.std.specs.Prelude.{◌≡◌, ℕ, Bool, true, false, ◌||◌, List, [], ◌∷◌, map, nat_lt, IfOk, IsErrAnd, IsOkAnd, Option, Some, Result, Ok, Err}
+use Rattle.std.specs.Prelude.{◌≡◌, ℕ, Bool, true, ◌||◌, List, [], ◌∷◌, map, nat_lt, IfOk, IsErrAnd, IsOkAnd, Option, Some, Result, Ok, Err}
 use Rattle.std.proofs.Common.{ap, arith, refl, sym, subst, ◌∙◌}
 use Rattle.std.proofs.lemmas.Bool.{lt-ltb, ltb-true}
 use Rattle.bag_algebra.specs.Measures.{height_of, size_of}

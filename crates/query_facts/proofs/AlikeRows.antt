@@ -1,10 +1,9 @@
 -- A query means the same under all outer rows that agree on the columns that it reads.
-use Rattle.std.proofs.Common.{◌≡◌, subst, ℕ, zero, suc, ◌≤◌, max, false, nat_lt, cond, List, [], ◌∷◌, ◌++◌, length, get_or, drop, map, Option, Some, None, refl, sym, ap, ◌∙◌, arith}
+use Rattle.std.proofs.Common.{◌≡◌, subst, ℕ, zero, suc, ◌≤◌, false, List, [], ◌∷◌, ◌++◌, get_or, drop, map, Option, Some, None, refl, ap, ◌∙◌, arith}
 use Rattle.std.proofs.lemmas.Bool.Decides.{nat_tests}
 use Rattle.std.proofs.lemmas.List.Elements.{All-nil, All-cons, All-head, All-tail}
 use Rattle.std.proofs.lemmas.Bool.{or_right}
 use Rattle.std.specs.Prelude.{◌==◌, Bool, true, ◌&&◌, ◌||◌, All}
-use Rattle.std.specs.List.{flat_map, list_any}
 use Rattle.perm_values.specs.Rows.{value_at, picked}
 use Rattle.perm_values.specs.Values.{same_value, is_null}
 use Rattle.perm_values.specs.declared.value.Value.{Value}

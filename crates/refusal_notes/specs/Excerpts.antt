@@ -1,5 +1,5 @@
 -- The piece of a script's line that is shown of it, and the mark under a place.
-use Rattle.std.specs.Prelude.{ℕ, ◌+◌, ◌-◌, ◌==◌, nat_lt, nat_le, Bool, cond, not, ◌&&◌, ◌||◌, List, [], ◌++◌, length, take, drop, reverse, map, filter, codes}
+use Rattle.std.specs.Prelude.{ℕ, ◌+◌, ◌-◌, ◌==◌, nat_lt, nat_le, cond, not, ◌&&◌, ◌||◌, List, [], ◌++◌, length, take, drop, reverse, map, filter, codes}
 use Rattle.std.specs.List.{take_while}
 use Rattle.refusal_notes.specs.places.Places.{begins_character, back_to_feed, up_to_feed}
 

@@ -16,7 +16,7 @@ use Rattle.bag_algebra.specs.declared.query.Query.{Query, Row_of-Sublink, more_o
 use Rattle.bag_algebra.specs.declared.query.Query.TheBlock.{shape-the_row-Sublink-1, hidden-the_row-Sublink-1}
 use Rattle.bag_algebra.specs.declared.query.Query.TheVariants.{Table, Single, Filter, Project, Join}
 use Rattle.bag_algebra.specs.declared.query.Sublink.{Sublink}
-use Rattle.rewrite_core.specs.rewritings.OpenSublinks.{EachSublink, EachOfSubs, IsClosedSublink, NoOpenSublink, NoSublinkReadsOut}
+use Rattle.rewrite_core.specs.rewritings.OpenSublinks.{EachOfSubs, IsClosedSublink, NoOpenSublink, NoSublinkReadsOut}
 
 -- ---- what the constructors of code make
 

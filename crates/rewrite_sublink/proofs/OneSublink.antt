@@ -1,6 +1,6 @@
 -- The one lemma of a sublink on a row: where the sublink is good there, a candidate passes the test exactly where it is one of
 -- its contributions, flattened; and the test is good on every candidate.
-use Rattle.std.proofs.Common.{◌≡◌, ◌↔◌, ℕ, Bool, true, cond, List, [], ◌∷◌, ◌++◌, length, Option, None, Contains, IsTrue, append-nil, refl, sym, ap, ◌∙◌, subst, arith}
+use Rattle.std.proofs.Common.{◌≡◌, ◌↔◌, ℕ, Bool, true, cond, List, [], ◌∷◌, ◌++◌, length, Option, None, Contains, IsTrue, append-nil, refl, sym, ap, ◌∙◌, subst}
 use Rattle.std.specs.List.{list_any, flat_map, range_with_len}
 use Rattle.perm_values.specs.Rows.{picked}
 use Rattle.perm_values.specs.declared.kind.Kind.{Kind}

@@ -1,8 +1,7 @@
 -- Outcomes of lists, item by item, and where a fault of a part is a fault of the whole.
-use Rattle.std.proofs.Common.{◌≡◌, ℕ, suc, zero, ◌<◌, Bool, true, false, ◌||◌, List, [], ◌∷◌, ◌++◌, length, get_or, refl, sym, ap, subst, ◌∙◌, arith, append_assoc, append-nil, Result, Ok, Err, IsErrAnd, IfErr}
+use Rattle.std.proofs.Common.{◌≡◌, ℕ, suc, zero, ◌<◌, ◌||◌, List, [], ◌∷◌, ◌++◌, length, get_or, refl, sym, ap, subst, ◌∙◌, arith, append_assoc, append-nil, Result, Ok, Err, IsErrAnd, IfErr}
 use Rattle.null_logic.specs.declared.run_fault.RunFault.{RunFault}
-use Rattle.null_logic.specs.declared.run_fault.RunFault.TheVariants.{DivideByZero, OutOfRange, SeveralRows}
-use Rattle.bag_algebra.specs.Outcome.{Outcome, Good, Bad, Faults, union, only, has, and_then, mapped, both, both_then, gather, each, of_result}
+use Rattle.bag_algebra.specs.Outcome.{Outcome, Good, Bad, Faults, union, and_then, mapped, both, both_then, gather, each, of_result}
 use Rattle.row_values.specs.Answers.{meets, Refuses, Gives}
 use Rattle.row_values.specs.declared.error.ExecError.{ExecError}
 use Rattle.row_values.specs.declared.error.ExecError.TheVariants.{Fault, NoMemory}

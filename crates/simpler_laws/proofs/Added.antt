@@ -1,5 +1,5 @@
 -- Lists that grow by what passes a test, or by what is moved.
-use Rattle.std.proofs.Common.{◌≡◌, ℕ, ◌<◌, ◌+◌, Bool, true, false, cond, List, [], ◌∷◌, ◌++◌, length, get_or, filter, take, append-nil, refl, sym, ap, ◌∙◌, subst}
+use Rattle.std.proofs.Common.{◌≡◌, ℕ, ◌<◌, ◌+◌, Bool, cond, List, [], ◌∷◌, ◌++◌, length, get_or, filter, take, append-nil, sym, ap, ◌∙◌, subst}
 use Rattle.perm_values.proofs.Lists.{taken}
 use Rattle.bag_algebra.specs.declared.expr.Expr.{Expr}
 use Rattle.contribution.specs.MovedColumns.{IsMoved, PartsMoved}

@@ -1,21 +1,19 @@
 -- Tests above a projection to columns are tests below it.
-use Rattle.std.proofs.Common.{◌≡◌, ℕ, ◌<◌, ◌&&◌, Bool, true, List, [], ◌∷◌, ◌++◌, length, filter, map, Some, refl, sym, ap, ◌∙◌, subst}
+use Rattle.std.proofs.Common.{◌≡◌, ℕ, ◌<◌, ◌&&◌, true, List, [], ◌∷◌, ◌++◌, length, filter, map, Some, refl, sym, ap, ◌∙◌}
 use Rattle.std.proofs.lemmas.Option.{get_or_from_slice_get, slice_get_within}
 use Rattle.std.specs.Prelude.{⊤, slice_get}
 use Rattle.perm_values.specs.Rows.{picked, PlacesWithin}
 use Rattle.perm_values.specs.declared.kind.Kind.{Kind}
 use Rattle.perm_values.specs.declared.kind.Kind.TheVariants as kind
-use Rattle.perm_values.specs.declared.value.Value.{Value}
 use Rattle.perm_values.proofs.Steps.{by}
 use Rattle.bag_algebra.proofs.Truths.{and_true}
 use Rattle.bag_algebra.specs.Bags.{Row, Bag}
 use Rattle.bag_algebra.specs.Expressions.{value}
-use Rattle.bag_algebra.specs.Kinds.{kind_in, kinds_in, kinds_of, item_kinds}
+use Rattle.bag_algebra.specs.Kinds.{kinds_in, kinds_of, item_kinds}
 use Rattle.bag_algebra.specs.Meaning.{Database, meaning, items_on}
 use Rattle.bag_algebra.specs.Means.{is_met, no_subs}
 use Rattle.bag_algebra.specs.Outcome.{Outcome, Good, Bad, and_then, mapped, both, each}
 use Rattle.bag_algebra.specs.Rewriting.{is_plain, Stands}
-use Rattle.bag_algebra.specs.TablesRead.{EachTable}
 use Rattle.bag_algebra.specs.WellFormed.{HasKind, ItemsForm, WellFormed}
 use Rattle.bag_algebra.specs.built.FaultFree.{all_parts_faultless}
 use Rattle.bag_algebra.specs.built.Forms.{AllHave, EachTable-Project, WellFormed-Project}

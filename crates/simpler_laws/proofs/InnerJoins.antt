@@ -1,5 +1,5 @@
 -- Tests of the pairs of an inner join: those of one side below it on that side, the others in its condition.
-use Rattle.std.proofs.Common.{◌≡◌, ℕ, Bool, true, ◌&&◌, List, [], ◌∷◌, ◌++◌, length, filter, refl, sym, ap, ◌∙◌, subst}
+use Rattle.std.proofs.Common.{◌≡◌, ℕ, true, ◌&&◌, List, [], ◌∷◌, ◌++◌, filter, refl, sym, ap, ◌∙◌, subst}
 use Rattle.std.proofs.lemmas.List.Folds.{list_all-append}
 use Rattle.std.proofs.lemmas.Bool.{and_from}
 use Rattle.std.specs.Prelude.{⊤}
@@ -7,17 +7,15 @@ use Rattle.perm_values.specs.declared.kind.Kind.{Kind}
 use Rattle.perm_values.specs.declared.kind.Kind.TheVariants as kind
 use Rattle.perm_values.proofs.Steps.{by}
 use Rattle.bag_algebra.proofs.NeverBad.{good-value}
-use Rattle.bag_algebra.proofs.Truths.{and_true}
-use Rattle.bag_algebra.specs.Bags.{Row, Bag}
+use Rattle.bag_algebra.specs.Bags.{Row}
 use Rattle.bag_algebra.specs.Expressions.{value}
 use Rattle.bag_algebra.specs.FaultFree.{faultless}
-use Rattle.bag_algebra.specs.Fits.{TablesFit, bag_fits, env_fits}
+use Rattle.bag_algebra.specs.Fits.{TablesFit, env_fits}
 use Rattle.bag_algebra.specs.Kinds.{kinds_of, width_of}
 use Rattle.bag_algebra.specs.Meaning.{Database, meaning, condition_on}
 use Rattle.bag_algebra.specs.Means.{is_met, no_subs}
 use Rattle.bag_algebra.specs.Outcome.{mapped, both}
 use Rattle.bag_algebra.specs.Rewriting.{is_plain, Stands}
-use Rattle.bag_algebra.specs.TablesRead.{EachTable}
 use Rattle.bag_algebra.specs.WellFormed.{WellFormed}
 use Rattle.bag_algebra.specs.built.FaultFree.{all_parts_faultless}
 use Rattle.bag_algebra.specs.built.Forms.{AllHave, EachTable-Join, WellFormed-Join}

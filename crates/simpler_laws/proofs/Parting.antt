@@ -1,5 +1,5 @@
 -- Tests of pairs by the side that decides: all are true where those of the left row, those of the right row and the others are.
-use Rattle.std.proofs.Common.{◌≡◌, ℕ, zero, suc, ◌+◌, ◌≤◌, ◌<◌, nat_lt, Bool, true, false, cond, not, ◌&&◌, List, [], ◌∷◌, ◌++◌, length, filter, map, slice_index_or, append-nil, refl, sym, ap, ◌∙◌, subst, true≢false, arith}
+use Rattle.std.proofs.Common.{◌≡◌, ℕ, zero, suc, ◌+◌, ◌≤◌, ◌<◌, nat_lt, Bool, true, false, cond, not, ◌&&◌, List, [], ◌∷◌, ◌++◌, length, filter, map, slice_index_or, append-nil, refl, sym, ap, ◌∙◌, true≢false, arith}
 use Rattle.std.specs.Prelude.{slice_get}
 use Rattle.std.proofs.lemmas.Bool.Decides.{nat_tests}
 use Rattle.std.proofs.lemmas.List.{map-append}
@@ -9,13 +9,12 @@ use Rattle.perm_values.specs.Rows.{picked, value_at, PlacesWithin}
 use Rattle.perm_values.specs.declared.kind.Kind.{Kind}
 use Rattle.perm_values.specs.declared.kind.Kind.TheVariants as kind
 use Rattle.perm_values.specs.declared.value.Value.TheVariants.{Null}
-use Rattle.bag_algebra.proofs.Truths.{and_true, left-true, right-true, both-true, and_turn}
+use Rattle.bag_algebra.proofs.Truths.{left-true, right-true, both-true, and_turn}
 use Rattle.bag_algebra.specs.Bags.{Row}
 use Rattle.bag_algebra.specs.Expressions.{value}
 use Rattle.bag_algebra.specs.FaultFree.{faultless}
 use Rattle.bag_algebra.specs.Kinds.{kind_in, kinds_in}
 use Rattle.bag_algebra.specs.Means.{is_met}
-use Rattle.bag_algebra.specs.Outcome.{Good}
 use Rattle.bag_algebra.specs.WellFormed.{HasKind}
 use Rattle.bag_algebra.specs.built.FaultFree.{all_parts_faultless}
 use Rattle.bag_algebra.specs.built.Forms.{AllHave}
@@ -25,8 +24,8 @@ use Rattle.contribution.proofs.WhereGood.{Every}
 use Rattle.contribution.specs.MovedColumns.{IsMoved, PartsMoved}
 use Rattle.rewrite_core.proofs.Places.{at-between, within-range}
 use Rattle.simpler_laws.proofs.Reading.{value-read, kind-read}
-use Rattle.simpler_laws.specs.Reads.{is_between, reads_only}
-use Rattle.simpler_laws.specs.Sides.{is_left, is_right, is_right_alone, is_of_both, right_places, zeros}
+use Rattle.simpler_laws.specs.Reads.{reads_only}
+use Rattle.simpler_laws.specs.Sides.{is_left, is_right, is_right_alone, right_places, zeros}
 use Rattle.simpler_laws.specs.Tested.{hold}
 
 -- ---- three parts of a list

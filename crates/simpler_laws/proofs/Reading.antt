@@ -1,5 +1,5 @@
 -- An expression has one value on rows that agree at the places that it reads, and the kinds that it has over kinds that do.
-use Rattle.std.proofs.Common.{◌≡◌, ℕ, zero, suc, nat_lt, Bool, true, false, ◌&&◌, List, ◌∷◌, refl, sym, ap, ◌∙◌, true≢false}
+use Rattle.std.proofs.Common.{◌≡◌, ℕ, zero, suc, Bool, true, false, ◌&&◌, List, ◌∷◌, refl, sym, ap, ◌∙◌, true≢false}
 use Rattle.std.specs.Prelude.{slice_get}
 use Rattle.perm_values.specs.Rows.{value_at}
 use Rattle.perm_values.specs.Values.{same_value, is_null}

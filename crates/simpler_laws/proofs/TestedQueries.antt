@@ -1,5 +1,5 @@
 -- A query with tests on its rows: what it means, when it is well formed, and what it reads.
-use Rattle.std.proofs.Common.{◌≡◌, ℕ, Bool, true, ◌&&◌, List, [], ◌∷◌, ◌++◌, filter, refl, sym, ap, ◌∙◌, subst, Contains}
+use Rattle.std.proofs.Common.{◌≡◌, ℕ, true, ◌&&◌, List, [], ◌∷◌, ◌++◌, filter, refl, sym, ap, ◌∙◌, subst, Contains}
 use Rattle.std.proofs.lemmas.List.Folds.{list_all-append}
 use Rattle.std.specs.Prelude.{⊤}
 use Rattle.perm_values.specs.declared.kind.Kind.{Kind}
@@ -19,7 +19,7 @@ use Rattle.bag_algebra.specs.Means.{is_met, no_subs}
 use Rattle.bag_algebra.specs.Outcome.{Outcome, Good, Bad, mapped}
 use Rattle.bag_algebra.specs.Rewriting.{is_plain, SameRows, Stands}
 use Rattle.bag_algebra.specs.TablesRead.{EachTable, tables_read}
-use Rattle.bag_algebra.specs.WellFormed.{HasKind, WellFormed}
+use Rattle.bag_algebra.specs.WellFormed.{WellFormed}
 use Rattle.bag_algebra.specs.built.FaultFree.{all_parts_faultless}
 use Rattle.bag_algebra.specs.built.Forms.{AllHave, EachTable-Filter, WellFormed-Filter}
 use Rattle.bag_algebra.specs.built.Openings.{Filter-is, meaning-Filter}

@@ -1,9 +1,8 @@
 -- Tests taken together are true where each is; so are the conjuncts of a condition.
-use Rattle.std.proofs.Common.{◌≡◌, ◌≤◌, ℕ, true, false, cond, not, ◌&&◌, List, [], ◌∷◌, ◌++◌, length, refl, sym, ap, subst, ◌∙◌, true≢false, arith}
+use Rattle.std.proofs.Common.{◌≡◌, ◌≤◌, ℕ, true, false, ◌&&◌, List, [], ◌∷◌, ◌++◌, refl, sym, ap, subst, ◌∙◌, true≢false, arith}
 use Rattle.std.proofs.lemmas.List.Folds.{list_all-append}
 use Rattle.std.specs.Prelude.{⊤}
 use Rattle.null_logic.specs.Logic.{truth_and, truth_of, value_of, is_true}
-use Rattle.null_logic.specs.declared.operator.Operator.{Operator}
 use Rattle.null_logic.specs.declared.operator.Operator.TheVariants as op
 use Rattle.null_logic.specs.declared.truth.Truth.{Truth}
 use Rattle.null_logic.specs.declared.truth.Truth.TheVariants.{True, False, Unknown}
@@ -27,7 +26,7 @@ use Rattle.bag_algebra.specs.built.Patterns.{OpOf, ChainOf, CaseOf, IsNullOf, Is
 use Rattle.bag_algebra.specs.declared.expr.Expr.{Expr, Row_of-Expr, more_of-Expr, end_of-Expr}
 use Rattle.bag_algebra.specs.declared.expr.Expr.TheVariants.{Col, Lit, Sub}
 use Rattle.contribution.specs.Conjunctions.{all_hold}
-use Rattle.simpler_laws.specs.Conjuncts.{is_always, conjuncts, parts_conjuncts}
+use Rattle.simpler_laws.specs.Conjuncts.{conjuncts, parts_conjuncts}
 use Rattle.simpler_laws.specs.Tested.{hold}
 
 -- ---- AND

@@ -2,7 +2,6 @@
 use Rattle.std.proofs.Common.{◌≡◌, ℕ, List, [], ◌∷◌, length, refl, ◌∙◌}
 use Rattle.sql_lexer.specs.declared.token.Token.{Token}
 use Rattle.sql_tree.specs.grammar.Building as b
-use Rattle.sql_tree.specs.grammar.Building.{Word}
 use Rattle.sql_tree.specs.grammar.Cursors.{reading, past, offset}
 use Rattle.sql_tree.specs.grammar.Descent.{Outcome, Taken, Stopped, and_then, mapped}
 use Rattle.sql_tree.specs.grammar.Lists.{all_of}

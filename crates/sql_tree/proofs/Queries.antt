@@ -10,7 +10,6 @@ use Rattle.sql_tree.specs.grammar.Grammar.{sql, body, list_of, in_parentheses, d
 use Rattle.sql_tree.specs.grammar.built.Pieces as piece
 use Rattle.sql_tree.specs.grammar.Sorts.{names, sort_of, same_sort}
 use Rattle.sql_tree.specs.grammar.Symbols as n
-use Rattle.sql_tree.specs.grammar.Symbols.{Symbol, Tree}
 use Rattle.sql_tree.specs.grammar.Tables.{join_begins, sql_tables}
 use Rattle.sql_tree.specs.declared.grammar.sort.Sort.{Sort}
 use Rattle.sql_tree.specs.declared.grammar.sort.Sort.TheVariants as s

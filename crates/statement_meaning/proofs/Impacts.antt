@@ -1,11 +1,10 @@
 -- What becomes of an IMPACT that breaks no rule.
-use Rattle.std.proofs.Common.{◌≡◌, ◌⊎◌, ◌∙◌, ℕ, Bool, true, false, cond, List, [], ◌∷◌, Option, Some, refl, sym, ap, subst, inl, inr}
+use Rattle.std.proofs.Common.{◌≡◌, ◌⊎◌, ◌∙◌, ℕ, Bool, true, false, cond, List, [], ◌∷◌, Option, refl, sym, ap, subst, inl, inr}
 use Rattle.perm_values.specs.Rows.{printed_cmp}
 use Rattle.bag_algebra.proofs.BagLaws.{same_bag-refl}
 use Rattle.bag_algebra.proofs.Members.{IsIn, in-member}
-use Rattle.bag_algebra.proofs.Outcomes.{same_good}
 use Rattle.bag_algebra.proofs.SortedBags.{same_bag-sorted}
-use Rattle.bag_algebra.specs.Bags.{Row, Bag, sorted}
+use Rattle.bag_algebra.specs.Bags.{Bag, sorted}
 use Rattle.bag_algebra.specs.Meaning.{Database, meaning}
 use Rattle.bag_algebra.specs.Outcome.{Outcome, Faults, Good, Bad, both, each, has, union}
 use Rattle.bag_algebra.specs.TableRows.{rows_in}
@@ -19,15 +18,11 @@ use Rattle.perm_catalog.specs.Contents.{Contents}
 use Rattle.query_laws.proofs.Limited.{ordered_once}
 use Rattle.query_laws.proofs.Once.{holds_once-same}
 use Rattle.query_laws.proofs.Outcomes.{from-union}
-use Rattle.sql_tree.specs.declared.expression.ExprTree.{ExprTree}
-use Rattle.sql_tree.specs.declared.name.Name.{Name}
-use Rattle.sql_tree.specs.declared.query.QueryTree.{QueryTree}
 use Rattle.sql_tree.specs.declared.statement.Statement.{Statement}
-use Rattle.sql_tree.specs.declared.statement.StatementBody.{StatementBody}
 use Rattle.statement_meaning.proofs.Asked.{asked-by_breaks}
 use Rattle.statement_meaning.proofs.Lost.{lost-vanish}
 use Rattle.statement_meaning.specs.Asking.{Settled, asked, asks}
-use Rattle.statement_meaning.specs.Turns.{Turn, Accepted, Refused, Meets, answer_text, answered, identity_of, impact, on_good, reads, rows_before, rows_going, rows_lost}
+use Rattle.statement_meaning.specs.Turns.{Accepted, Refused, Meets, answer_text, answered, identity_of, impact, on_good, reads, rows_before, rows_going, rows_lost}
 use Rattle.statement_meaning.proofs.Answered.{listed-text, same_text}
 use Rattle.statement_meaning.proofs.Provenance.{same_bag-holds}
 use Rattle.statement_meaning.specs.laws.Lost.{AsksImpact, ListsLost, MeetsLost, of_query, of_condition}

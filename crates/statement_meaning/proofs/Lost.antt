@@ -1,6 +1,6 @@
 -- The rows that an IMPACT answers are those that vanish, and the tables that a query reads are told by their identities.
 use mathlib.Core.Bool.{true≢false}
-use Rattle.std.proofs.Common.{◌≡◌, ◌≢◌, ◌∙◌, ◌==◌, ℕ, Bool, true, false, not, List, [], filter, Option, Decides, IsTrue, refl, sym, ap, subst}
+use Rattle.std.proofs.Common.{◌≡◌, ◌≢◌, ◌∙◌, ◌==◌, ℕ, Bool, true, false, not, [], filter, Option, Decides, IsTrue, refl, sym, ap, subst}
 use Rattle.std.proofs.lemmas.Bool.{eqb-true, eq-eqb}
 use Rattle.bag_algebra.proofs.BagLaws.{member-filter}
 use Rattle.bag_algebra.proofs.MembersByIndex.{contains-from_in, in-from_contains}

@@ -36,7 +36,7 @@ use Rattle.sql_tree.specs.declared.statement.ValuesRow.{ValuesRow}
 use Rattle.name_meaning.proofs.Equations.{ExprBodyFrame, SelectItemFrame, SetTreeFrame, FromSourceFrame, CoreFrame}
 use Rattle.name_meaning.specs.Cores.{BodyPart, core_step, core_over, core_seen, has_some, group_scope, group_break, group_found, word_breaks}
 use Rattle.name_meaning.specs.Expressions.{Body, ArmPart, StepPart, body_step, first_of, second_of, negated_if, times, chain_made, step_operand, first_need, chain_gives, in_kind, arm_operands, else_operand, case_made}
-use Rattle.name_meaning.specs.Froms.{Read, SourcePart, named, inner, FromItemPart, FromMeant, FromPart, ItemMeant, JoinPart, attribute_breaks, column_breaks, condition_breaks, first_item, from_all, from_more, beside_from, in_on, item_meant, join_all, join_item, label_of, marked, mark_breaks, named_so, names_of, optional_breaks, on_meant, both_known, scope_items, read_of, read_named, read_table, read_view, read_nothing, read_names, scope_name, source_step, applied, in_from, joined, joined_around, joined_item, in_clause, optional_meant}
+use Rattle.name_meaning.specs.Froms.{Read, SourcePart, named, inner, FromItemPart, FromMeant, FromPart, ItemMeant, JoinPart, attribute_breaks, column_breaks, condition_breaks, first_item, from_all, from_more, beside_from, in_on, item_meant, join_all, join_item, label_of, mark_breaks, named_so, names_of, optional_breaks, on_meant, both_known, scope_items, read_of, read_named, read_table, read_view, read_nothing, scope_name, source_step, applied, in_from, joined, joined_around, joined_item, in_clause, optional_meant}
 use Rattle.name_meaning.specs.Items.{SelectPart, columns_meant, item_step, no_columns, star_meant, table_star_meant, items_breaks, is_ungrouped}
 use Rattle.name_meaning.specs.Meanings.{Around, Meant, OutColumn, Part, QueryMeant, QueryPart, Surroundings, broken, broken_if, is_whole, means_at, query_means_at, seen_kind, unites}
 use Rattle.name_meaning.specs.Operands.{Operand, first_unfit, gives_of, need_of, node, operand, operated, parts_breaks, unfit_break}

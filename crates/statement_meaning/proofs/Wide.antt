@@ -1,5 +1,5 @@
 -- A query's rows are as wide as its header.
-use Rattle.std.proofs.Common.{◌≡◌, ◌∙◌, List, [], length, refl, sym, ap, subst}
+use Rattle.std.proofs.Common.{◌≡◌, ◌∙◌, [], length, sym, ap, subst}
 use Rattle.std.specs.Option.{option_map_or}
 use Rattle.bag_algebra.proofs.MembersByIndex.{contains-from_in}
 use Rattle.bag_algebra.specs.Bags.{Row, Bag}
@@ -19,7 +19,7 @@ use Rattle.sql_tree.specs.declared.query.QueryTree.{QueryTree}
 use Rattle.sql_tree.specs.declared.statement.Statement.{Statement}
 use Rattle.sql_tree.specs.declared.statement.StatementBody.{StatementBody}
 use Rattle.name_meaning.specs.Froms.{names_of, settled_columns}
-use Rattle.name_meaning.specs.Meanings.{Around, OutColumn, query_means_at}
+use Rattle.name_meaning.specs.Meanings.{Around, query_means_at}
 use Rattle.name_meaning.specs.Statements.{alone, answer_of, name_breaks}
 use Rattle.name_meaning.specs.Trees.{query_of}
 use Rattle.name_meaning.proofs.SettledKinds.{settled-names}

@@ -1,7 +1,6 @@
 -- The turn of an IMPACT is that of a query that answers which rows vanish.
 use Rattle.std.proofs.Common.{◌≡◌, ◌≢◌, ◌↔◌, ◌≤◌, ◌<◌, ◌∙◌, ℕ, Bool, true, false, cond, List, [], Option, Some, None, Result, Ok, Err, IfOk, refl, ap, subst, arith}
 use Rattle.perm_values.specs.Rows.{printed_cmp}
-use Rattle.perm_values.specs.declared.key.Key.{Key}
 use Rattle.bag_algebra.proofs.SortedBags.{printed_unique}
 use Rattle.bag_algebra.proofs.TablesRead.{reads_among-fit}
 use Rattle.bag_algebra.specs.Bags.{Row, Bag, sorted}
@@ -14,7 +13,6 @@ use Rattle.bag_algebra.specs.declared.expr.Expr.{Expr}
 use Rattle.bag_algebra.specs.declared.query.Answer.{Answer}
 use Rattle.bag_algebra.specs.declared.query.Query.{Query}
 use Rattle.csv_tables.specs.AnswerText.{answer_bytes}
-use Rattle.delete_impact.specs.Impact.{IsImpact}
 use Rattle.delete_impact.proofs.Unread.{nothing-vanishes}
 use Rattle.delete_impact.specs.vanishing.Doomed.{doomed_on}
 use Rattle.delete_impact.specs.vanishing.Vanishing.{Vanishes}
@@ -24,7 +22,7 @@ use Rattle.query_laws.specs.Holding.{HoldsOnce}
 use Rattle.statement_meaning.proofs.Lost.{lost-vanish, reads-not, reads-some}
 use Rattle.statement_meaning.specs.Answers.{IsText}
 use Rattle.statement_meaning.specs.Ready.{CanLose, CanRun}
-use Rattle.statement_meaning.specs.Turns.{Turn, Accepted, answered, identity_of, impact, on_good, reads, rows_before, rows_going, rows_lost, select}
+use Rattle.statement_meaning.specs.Turns.{Turn, Accepted, answered, identity_of, impact, on_good, reads, rows_lost, select}
 use Rattle.statement_meaning.specs.declared.refusal.StepRefusal.{StepRefusal}
 use Rattle.statement_steps.specs.Runs.{IsAnswered, IsLost, IsLostBy}
 use Rattle.statement_steps.specs.declared.ran.Ran.{Ran}

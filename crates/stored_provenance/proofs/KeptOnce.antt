@@ -3,7 +3,7 @@ use mathlib.Core.Bool.{true≢false}
 use Rattle.std.proofs.Common.{◌≡◌, ◌⊎◌, inl, inr, ℕ, Bool, true, false, not, ◌||◌, cond, List, [], ◌∷◌, ◌++◌, filter, Option, Some, None, append-nil, append_assoc, refl, sym, ap, ◌∙◌, arith, nat_eq}
 use Rattle.std.proofs.lemmas.Bool.{not-true, not-false, eqb-true}
 use Rattle.std.proofs.lemmas.Bool.Decides.{nat_tests}
-use Rattle.std.specs.List.{flat_map, list_any}
+use Rattle.std.specs.List.{flat_map}
 use Rattle.std.specs.Option.{option_map, option_map_or}
 use Rattle.bag_algebra.proofs.Truths.{or_associates, or_false, or_true}
 use Rattle.bag_algebra.specs.TablesRead.{TableRead, tables_read}
@@ -14,7 +14,7 @@ use Rattle.perm_catalog.specs.Stored.{each_once, kept_read, kept_of}
 use Rattle.perm_catalog.specs.declared.entries.Kept.{Kept}
 use Rattle.perm_catalog.specs.declared.entries.TableEntry.{TableEntry}
 use Rattle.stored_provenance.proofs.Found.{found-passes}
-use Rattle.stored_provenance.specs.Reads.{has_id, kept_now, listed, with_read, with_reads}
+use Rattle.stored_provenance.specs.Reads.{has_id, kept_now, listed, with_reads}
 
 turned : (a b : ℕ) → nat_eq a b ≡ nat_eq b a
 turned a b = grind (arith, nat_tests)

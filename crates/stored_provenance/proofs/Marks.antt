@@ -11,9 +11,9 @@ use Rattle.std.specs.Map.{keys_of}
 use Rattle.std.specs.Option.{option_map_or}
 use Rattle.perm_values.specs.declared.kind.Kind.{Kind}
 use Rattle.bag_algebra.specs.Bags.{Bag}
-use Rattle.bag_algebra.specs.Meaning.{denote, meaning}
+use Rattle.bag_algebra.specs.Meaning.{meaning}
 use Rattle.bag_algebra.specs.Means.{Means}
-use Rattle.bag_algebra.specs.Outcome.{Outcome, Good}
+use Rattle.bag_algebra.specs.Outcome.{Good}
 use Rattle.bag_algebra.specs.Rewriting.{SameRows}
 use Rattle.bag_algebra.specs.TableRows.{rows_in}
 use Rattle.bag_algebra.proofs.TablesRead.{each_table-kept}
@@ -22,12 +22,12 @@ use Rattle.perm_catalog.specs.Changes.{table_named}
 use Rattle.perm_catalog.specs.Columns.{column_kinds}
 use Rattle.perm_catalog.specs.Contents.{Contents}
 use Rattle.perm_catalog.specs.Lookups.{entry_of_id}
-use Rattle.perm_catalog.specs.Stored.{is_unchanged, first_changed, IsFresh, IsKept, IsKeptTable, IsDrawn, IsSoundMark}
+use Rattle.perm_catalog.specs.Stored.{is_unchanged, IsFresh, IsKeptTable, IsDrawn, IsSoundMark}
 use Rattle.perm_catalog.specs.declared.column.Column.{Column}
 use Rattle.perm_catalog.specs.declared.entries.Kept.{Kept}
 use Rattle.perm_catalog.specs.declared.entries.Mark.{Mark}
 use Rattle.perm_catalog.specs.declared.entries.TableEntry.{TableEntry}
-use Rattle.stored_provenance.proofs.Found.{IsFound, named-found, found-passes, found-named}
+use Rattle.stored_provenance.proofs.Found.{named-found, found-passes, found-named}
 
 -- names and identities differ
 pub record AreApart (c : Contents) : Type 0 where

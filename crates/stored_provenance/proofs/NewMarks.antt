@@ -9,9 +9,9 @@ use Rattle.std.specs.Option.{option_map_or}
 use Rattle.perm_values.specs.Rows.{PlacesWithin}
 use Rattle.perm_values.specs.declared.kind.Kind.{Kind}
 use Rattle.bag_algebra.proofs.TablesRead.{each_table-both, each_table-kept, reads_among-itself}
-use Rattle.bag_algebra.specs.Bags.{Bag, Row}
+use Rattle.bag_algebra.specs.Bags.{Bag}
 use Rattle.bag_algebra.specs.Kinds.{kinds_of}
-use Rattle.bag_algebra.specs.Meaning.{meaning, denote}
+use Rattle.bag_algebra.specs.Meaning.{meaning}
 use Rattle.bag_algebra.specs.Outcome.{Good}
 use Rattle.bag_algebra.specs.Rewriting.{SameRows}
 use Rattle.bag_algebra.specs.TableRows.{rows_in}
@@ -24,7 +24,7 @@ use Rattle.perm_catalog.specs.Columns.{column_kinds}
 use Rattle.perm_catalog.specs.Contents.{Contents}
 use Rattle.perm_catalog.specs.Lookups.{entry_of_id}
 use Rattle.perm_catalog.specs.Sound.{IsSound}
-use Rattle.perm_catalog.specs.Stored.{is_unchanged, first_changed, IsFresh, IsKept, IsKeptTable, IsDrawn, IsSoundMark, each_once, kept_read, kept_of, mark_of}
+use Rattle.perm_catalog.specs.Stored.{is_unchanged, IsFresh, IsKeptTable, IsDrawn, IsSoundMark, each_once, kept_read, kept_of, mark_of}
 use Rattle.perm_catalog.specs.declared.column.Column.{Column}
 use Rattle.perm_catalog.specs.declared.entries.Kept.{Kept}
 use Rattle.perm_catalog.specs.declared.entries.TableEntry.{TableEntry}

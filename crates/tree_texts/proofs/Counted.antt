@@ -1,5 +1,5 @@
 -- The tests of how many parts there are, as code makes them.
-use Rattle.std.proofs.Common.{◌≡◌, ◌∙◌, ℕ, zero, suc, Bool, cond, List, [], nat_eq, nat_lt, refl, ap}
+use Rattle.std.proofs.Common.{◌≡◌, ◌∙◌, ℕ, zero, suc, cond, List, [], nat_eq, nat_lt, refl, ap}
 use lib.Dec.{leb-zero, leb-suc-suc, eqb-suc-zero, eqb-suc-suc}
 use Rattle.tree_texts.specs.expressions.Words.{is_any, is_one, is_several, is_three, is_two, separator}
 

@@ -2,7 +2,7 @@
 use Rattle.std.proofs.Common.{◌≡◌, ℕ, ◌+◌, Bool, true, false, List, [], ◌∷◌, map, Option, Some, None, refl, ap, ap₂, ◌∙◌}
 use Rattle.sql_tree.specs.grammar.Building.{lateral}
 use Rattle.tree_texts.specs.plans.Levels.{a_name, expression}
-use Rattle.tree_texts.specs.plans.Plans.{no_more, one_more}
+use Rattle.tree_texts.specs.plans.Plans.{one_more}
 use Rattle.sql_tree.specs.declared.expression.ExprBody.TheVariants as e
 use Rattle.sql_tree.specs.declared.expression.ExprTree.{ExprTree}
 use Rattle.sql_tree.specs.declared.name.ColRef.{ColRef}
@@ -15,7 +15,7 @@ use Rattle.sql_tree.specs.declared.source.JoinStep.{JoinStep, roll-JoinStep}
 use Rattle.tree_texts.specs.FormPlans as plan
 use Rattle.tree_texts.specs.Forms as f
 use Rattle.tree_texts.specs.Forms.{Additive, Multiplicative, United, ColumnForm, KeyForm, ExprForm, CompoundForm, ExprForms, SumForms, ProductForms, ArmForms, ItemForms, SourceForm, JoinForms, FromForm, ConditionForm, CoreForm, UnionForms, IntersectForms, QueryForm}
-use Rattle.tree_texts.specs.Phrases.{maybe_not, maybe_all, maybe_distinct, comparison, additive, multiplicative, folding, uniting, reference_to, group_column, next_group, more_groups, grouped, key, next_key, more_keys, ordered, limited, sum_step, product_step, behind_and, behind_or, behind_comma, joining, lateral_query, joining_lateral, union_step, intersect_step}
+use Rattle.tree_texts.specs.Phrases.{maybe_not, maybe_all, maybe_distinct, comparison, additive, multiplicative, folding, uniting, reference_to, group_column, next_group, more_groups, grouped, key, next_key, more_keys, ordered, sum_step, product_step, behind_and, behind_or, behind_comma, joining, lateral_query, joining_lateral, union_step, intersect_step}
 use Rattle.tree_texts.specs.Standing.{Places, given, past}
 use Rattle.tree_texts.specs.Trees.{IsColumn, bare_tree, in_item_tree, AreColumns, no_column_trees, a_column_tree, AreKeys, no_key_trees, a_key_tree, IsExpr, column_tree, integer_tree, text_tree, truth_tree, null_tree, enclosed_tree, case_tree, coalesce_tree, null_if_tree, count_rows_tree, count_tree, count_distinct_tree, folded_tree, exists_tree, scalar_tree, IsCompound, negative_tree, added_tree, multiplied_tree, compared_tree, like_tree, between_tree, in_list_tree, in_query_tree, any_tree, all_tree, is_null_tree, is_truth_tree, is_distinct_tree, negated_tree, each_of_tree, one_of_tree, AreExprs, no_expr_trees, an_expr_tree, IsTerm, term_tree, AreTerms, no_term_trees, a_term_tree, IsFactor, factor_tree, AreFactors, no_factor_trees, a_factor_tree, AreArms, no_arm_trees, an_arm_tree, IsItem, item_tree, AreItems, no_item_trees, an_item_tree, IsSource, table_tree, table_as_tree, subquery_tree, AreJoins, no_join_trees, a_join_tree, a_lateral_tree, AreSources, no_source_trees, source_trees, IsCondition, no_condition_tree, condition_tree, IsCore, select_tree, IsStep, step_tree, AreUnions, no_union_trees, a_union_tree, AreIntersects, no_intersect_trees, an_intersect_tree, IsQuery, one_tree, united_tree, intersected_tree, set_of}
 use Rattle.tree_texts.proofs.Words.{not_is, all_is, distinct_is, direction_is, comparison_is, any_is, every_is, truth_is, additive_is, multiplicative_is, folding_is, uniting_is, right_is, full_is, kind_is, number_is, text_is, truth_literal_is, limit_is}

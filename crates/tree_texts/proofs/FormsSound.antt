@@ -1,7 +1,6 @@
 -- Each token that the plan of a form chooses can be written, where the form can.
-use Rattle.std.proofs.Common.{ℕ, pos, Bool, true, false, List, [], ◌∷◌, Option, Some, None, refl}
+use Rattle.std.proofs.Common.{ℕ, Bool, true, false, List, [], ◌∷◌, Option, Some, None, refl}
 use Rattle.std.specs.List.{AllByRecursion}
-use Rattle.std.specs.Str.{IsUtf8}
 use Rattle.std.proofs.lemmas.Str.{IsUtf8-nil}
 use Rattle.null_logic.specs.declared.compare.Compare.{Compare}
 use Rattle.null_logic.specs.declared.compare.Compare.TheVariants as compare
@@ -13,7 +12,7 @@ use Rattle.sql_tree.specs.grammar.Rules.{symbol}
 use Rattle.sql_tree.specs.grammar.Symbols as n
 use Rattle.tree_texts.specs.plans.Levels.{number_token, expression}
 use Rattle.tree_texts.specs.plans.Plans.{Plan}
-use Rattle.tree_texts.specs.Fits.{FitsNumber, FitsColumn, FitsKey, FitsLimit, FitsEnd, FitsExpr, FitsCompound, FitsExprs, FitsTerms, FitsFactors, FitsArms, FitsItems, FitsSource, FitsJoins, FitsFrom, FitsCondition, FitsCore, FitsUnions, FitsIntersects, FitsQuery}
+use Rattle.tree_texts.specs.Fits.{FitsNumber, FitsColumn, FitsKey, FitsLimit, FitsExpr, FitsCompound, FitsExprs, FitsTerms, FitsFactors, FitsArms, FitsItems, FitsSource, FitsJoins, FitsFrom, FitsCondition, FitsCore, FitsUnions, FitsIntersects, FitsQuery}
 use Rattle.tree_texts.specs.FormPlans as plan
 use Rattle.tree_texts.specs.Forms as f
 use Rattle.tree_texts.specs.Forms.{ColumnForm, Additive, Multiplicative, Folded, Joined, United, KeyForm, ExprForm, CompoundForm, ExprForms, SumForms, ProductForms, ArmForms, ItemForms, SourceForm, JoinForms, FromForm, ConditionForm, CoreForm, UnionForms, IntersectForms, QueryForm}

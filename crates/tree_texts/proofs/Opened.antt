@@ -1,5 +1,5 @@
 -- The texts of what the constructors of code make, in words on plain lists of children, and how they are joined piece by piece.
-use Rattle.std.proofs.Common.{◌≡◌, ◌∙◌, ℕ, List, [], ◌∷◌, ◌++◌, length, map, refl, sym, ap, ap₂, append_assoc}
+use Rattle.std.proofs.Common.{◌≡◌, ◌∙◌, ℕ, List, [], ◌∷◌, ◌++◌, length, refl, sym, ap, ap₂, append_assoc}
 use Rattle.std.specs.Prelude.{codes}
 use Rattle.std.proofs.lemmas.List.{length-map}
 use Rattle.null_logic.specs.declared.operator.Operator.{Operator}
@@ -12,7 +12,7 @@ use Rattle.bag_algebra.specs.declared.expr.Expr.TheBlock.{shape-the_row-Expr-0, 
 use Rattle.bag_algebra.specs.declared.expr.Expr.TheVariants.{Op, Chain, Case, IsNull, IsTruth, Same}
 use Rattle.tree_texts.specs.expressions.ExpressionTexts.{expr_bytes, part_texts, step_texts, arm_texts, texts_of, step_text_of, steps_of, arm_text_of, arms_of, operated_with, operated_text, operated_on, chained_with, chained_text, steps_on, cases_with, cases_text, arms_on, arms_text, level_of, first_level, truth_front, truth_back}
 use Rattle.tree_texts.specs.expressions.Words.{unless_none}
-use Rattle.tree_texts.proofs.Pieces.{laid2, laid3}
+use Rattle.tree_texts.proofs.Pieces.{laid3}
 
 module _ (prefix : List ℕ) (subs : List (List ℕ)) where
   parts-opened : (parts : List Expr) → part_texts prefix subs (row_of_parts parts) ≡ texts_of prefix subs parts

@@ -13,7 +13,7 @@ use Rattle.sql_lexer.specs.Printing.{spelling, plain_spelled, at_place, IsSpella
 use Rattle.sql_lexer.proofs.Printed.{read_again}
 use Rattle.sql_tree.specs.grammar.Grammar.{sql, SqlRule}
 use Rattle.sql_tree.specs.grammar.Rules as rules
-use Rattle.sql_tree.specs.grammar.Rules.{◌then◌, ◌or◌, front, optional, many, placed, symbol, Spelled, StartsAt}
+use Rattle.sql_tree.specs.grammar.Rules.{◌then◌, ◌or◌, many, Spelled, StartsAt}
 use Rattle.sql_tree.specs.grammar.Sorts.{sort_of, sort_by}
 use Rattle.sql_tree.specs.declared.grammar.sort.Sort.{Sort}
 use Rattle.tree_texts.specs.plans.Blanks.{Blank, left_out, none, both_blank, blank_symbol, blank_value}

@@ -1,5 +1,5 @@
 -- The text of a form is read as a tree of the form.
-use Rattle.std.proofs.Common.{ℕ, List}
+use Rattle.std.proofs.Common.{ℕ}
 use Rattle.sql_tree.specs.grammar.Symbols as n
 use Rattle.sql_parser.specs.Texts.{IsTextOf}
 use Rattle.sql_tree.specs.declared.query.QueryTree.{QueryTree}

@@ -7,7 +7,7 @@ use Rattle.null_logic.specs.declared.truth.Truth.{Truth}
 use Rattle.null_logic.specs.declared.truth.Truth.TheVariants as truths
 use Rattle.perm_values.specs.declared.kind.Kind.{Kind}
 use Rattle.perm_values.specs.declared.kind.Kind.TheVariants as kinds
-use Rattle.sql_tree.specs.grammar.Building.{is, kind_of, comparison_of, arith_of, truth_of, aggregate_of, outer_of, set_word, is_descending}
+use Rattle.sql_tree.specs.grammar.Building.{is, comparison_of, arith_of, truth_of, aggregate_of, outer_of, set_word, is_descending}
 use Rattle.sql_tree.specs.grammar.Sorts.{same_sort, word_sort, symbol_sort}
 use Rattle.sql_tree.specs.declared.grammar.sort.Sort.TheVariants as s
 use Rattle.sql_tree.specs.declared.expression.ExprBody.TheVariants as e

@@ -1,5 +1,5 @@
 -- The plan of each form: which rules of the grammar it is spelled by, with which words and names.
-use Rattle.std.specs.Prelude.{ℕ, List, Option, refl}
+use Rattle.std.specs.Prelude.{ℕ, List, refl}
 use Rattle.sql_tree.specs.grammar.Rules.{word, ◌then◌, many, symbol}
 use Rattle.sql_tree.specs.grammar.Symbols as n
 use Rattle.sql_tree.specs.declared.grammar.sort.Sort.TheVariants as s
@@ -8,7 +8,7 @@ use Rattle.tree_texts.specs.plans.Levels.{a_name, a_number, literal, reference, 
 use Rattle.tree_texts.specs.plans.Plans.{Plan, here, there, a_word, a_choice, both, before, behind, first, second, front_second, absent, present, no_more, one_more, one_last, at_start, as_symbol}
 use Rattle.tree_texts.specs.Forms as f
 use Rattle.tree_texts.specs.Forms.{ExprForm, CompoundForm, ExprForms, SumForms, ProductForms, ArmForms, ItemForms, SourceForm, JoinForms, FromForm, ConditionForm, CoreForm, UnionForms, IntersectForms, QueryForm}
-use Rattle.tree_texts.specs.Phrases.{maybe_not, maybe_distinct, comparison, truth_word, folding, joining, joining_lateral, reference_to, text_literal, truth_literal, typed_null, alias, grouped, enclosing, to_factor, to_term, to_part, sum_step, product_step, behind_and, behind_or, behind_comma, from_ranged, from_sum, from_negated, from_test, cast_alone, case_alone, exists_alone, parentheses_alone, count_alone, aggregate_alone, coalesce_alone, null_if_alone, behind_operand, ranging, testing, union_step, intersect_step, resting, whole_query, inner_query}
+use Rattle.tree_texts.specs.Phrases.{maybe_not, maybe_distinct, comparison, truth_word, folding, joining, joining_lateral, reference_to, text_literal, truth_literal, typed_null, alias, grouped, enclosing, to_factor, to_term, to_part, sum_step, product_step, behind_and, behind_or, behind_comma, from_sum, from_negated, cast_alone, case_alone, exists_alone, parentheses_alone, count_alone, aggregate_alone, coalesce_alone, null_if_alone, behind_operand, ranging, testing, union_step, intersect_step, resting, whole_query, inner_query}
 
 abbrev pub arm : Plan (symbol n.Primary) → Plan (symbol n.Primary) → Plan (symbol n.Arm)
 arm condition value = as_symbol (both (a_word refl) (both (expression condition) (both (a_word refl) (expression value))))

@@ -1,6 +1,6 @@
 -- What is kept of queries with filters, worked out by the rule: of a filter below another the input that reads nothing, of two
 -- whose inputs read the same the upper one's, and the rows of a query that no key answers.
-use Rattle.std.proofs.Common.{◌≡◌, ℕ, zero, suc, ◌<◌, ◌≤◌, Option, Some, None, refl, arith}
+use Rattle.std.proofs.Common.{◌≡◌, ℕ, zero, suc, ◌<◌, ◌≤◌, Some, None, refl, arith}
 use Rattle.bag_algebra.specs.built.Patterns.{DistinctOf}
 use Rattle.null_logic.specs.declared.compare.Compare.TheVariants.{Greater}
 use Rattle.bag_algebra.specs.declared.expr.Expr.{Expr}

@@ -26,7 +26,7 @@ use Rattle.name_meaning.specs.declared.answer.Resolved.TheVariants as r
 use Rattle.statement_meaning.specs.Asking.{Asked, Settled, asked, asks}
 use Rattle.statement_meaning.specs.Turns.{Cause, Accepted, Refused, Broken, Meets, Missing, TooLarge, Unfit, Failed, copy}
 use Rattle.worked_examples.specs.NamedCatalog.{stored}
-use Rattle.worked_examples.specs.NamedTrees.{name, statement, defined, values, query, core, from, table}
+use Rattle.worked_examples.specs.NamedTrees.{name, statement, defined, values, query, core}
 use Rattle.worked_examples.specs.NamedTrees as tree
 use Rattle.worked_examples.specs.HeldRows.{answering, column, compared, drawing_next, holding, item, number, reckoned, rows-r, rows-s, select, selected, source_s, text, whole, with_v}
 use Rattle.name_meaning.specs.declared.rule.Rule.TheVariants as rule

@@ -1,6 +1,6 @@
 -- Worked examples of sublinks that are rewritten by dependent joins, over the tables r(a INTEGER) and s(c INTEGER): the rewriting
 -- has the rows of the PROVENANCE of the query, also over a source that isn't a table.
-use Rattle.std.specs.Prelude.{◌≡◌, pos, [], ◌∷◌, Some, None, refl, codes}
+use Rattle.std.specs.Prelude.{◌≡◌, [], ◌∷◌, Some, refl, codes}
 use Rattle.null_logic.specs.declared.compare.Compare.TheVariants as compare
 use Rattle.perm_values.specs.declared.kind.Kind.TheVariants as kind
 use Rattle.perm_values.specs.declared.value.Value.TheVariants.{Integer, Null}

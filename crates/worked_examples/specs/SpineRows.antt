@@ -12,7 +12,6 @@ use Rattle.bag_algebra.specs.declared.query.JoinKind.{JoinKind}
 use Rattle.bag_algebra.specs.declared.query.JoinKind.TheVariants.{Inner, Left}
 use Rattle.bag_algebra.specs.declared.query.Query.{Query, end_of-Sublink}
 use Rattle.bag_algebra.specs.declared.query.SubKind.TheVariants.{Any, Exists, Scalar}
-use Rattle.bag_algebra.specs.declared.query.Sublink.{Sublink}
 use Rattle.query_laws.specs.spines.Spines.{all_behind, is_spine, spine_join}
 use Rattle.query_laws.specs.declared.spines.spine.Spine.{Spine}
 use Rattle.rewrite_move.specs.Traced.{below_groups, traced_of, traced_sub}

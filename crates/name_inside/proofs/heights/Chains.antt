@@ -1,6 +1,6 @@
 -- How high at least a list is, one part after the other.
-use Rattle.std.specs.Prelude.{◌≡◌, ◌<◌, ◌+◌, ℕ, suc, max, List, [], ◌∷◌, ◌++◌, length, map, fold, take}
-use Rattle.std.proofs.Common.{ap, arith, get_or, refl, sym, length-take, ◌∙◌}
+use Rattle.std.specs.Prelude.{◌≡◌, ◌<◌, ◌+◌, ℕ, max, List, [], ◌∷◌, ◌++◌, length, map, fold, take}
+use Rattle.std.proofs.Common.{ap, arith, get_or, sym, length-take, ◌∙◌}
 use Rattle.std.proofs.lemmas.List.{length-map, map-append}
 use Rattle.std.proofs.lemmas.List.Sums.{fold_push}
 use Rattle.perm_values.proofs.Lists.{taken}

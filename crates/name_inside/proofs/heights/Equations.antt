@@ -16,9 +16,9 @@ use Rattle.sql_tree.specs.declared.query.SetTree.TheVariants as set
 use Rattle.sql_tree.specs.declared.source.FromSource.TheVariants as source
 use Rattle.sql_tree.specs.declared.expression.ExprBody.TheFolds.{fold-roll-ExprBody, fold-roll-SelectItem, fold-roll-SetTree, fold-roll-FromSource, fold-roll-ArmTree, fold-roll-ExprStep, fold-roll-ExprTree, fold-roll-Core, fold-roll-QueryTree, fold-roll-SetStep, fold-roll-FromItem, fold-roll-FromTree, fold-roll-JoinStep}
 use Rattle.sql_tree.specs.declared.expression.ExprBody.TheOpen.{ExprBody-F, SelectItem-F, SetTree-F, FromSource-F}
-use Rattle.sql_tree.specs.declared.expression.ExprBody.TheViews.{roll-ExprBody, roll-SelectItem, roll-SetTree, roll-FromSource, roll-out-Core, roll-out-FromTree, roll-out-JoinStep}
+use Rattle.sql_tree.specs.declared.expression.ExprBody.TheViews.{roll-out-Core, roll-out-FromTree, roll-out-JoinStep}
 use Rattle.sql_tree.specs.declared.query.Core.{out-Core, roll-Core}
-use Rattle.sql_tree.specs.declared.source.FromTree.{out-FromTree, roll-FromTree}
+use Rattle.sql_tree.specs.declared.source.FromTree.{out-FromTree}
 use Rattle.sql_tree.specs.declared.source.JoinStep.{out-JoinStep, roll-JoinStep}
 use Rattle.sql_tree.specs.declared.query.SelectItem.{SelectItem}
 use Rattle.sql_tree.specs.declared.query.SetTree.{SetTree}

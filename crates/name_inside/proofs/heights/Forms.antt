@@ -34,7 +34,7 @@ use Rattle.name_meaning.specs.declared.need.Need.{Need}
 use Rattle.name_meaning.specs.declared.need.Need.TheVariants.{OfKind as of_kind, Alike as alike, Free as free}
 use Rattle.name_meaning.specs.declared.rule.Rule.TheVariants as rule
 use Rattle.name_meaning.specs.declared.scope.Scope.{Scope}
-use Rattle.name_inside.proofs.heights.Operands.{node-high, operand-alone, operand-at, operand-pair, operands-both}
+use Rattle.name_inside.proofs.heights.Operands.{node-high, operand-alone, operand-at, operands-both}
 use Rattle.name_inside.specs.heights.High.{ListHigh, OperandsHigh, OptionalHigh, QueryHigh, SelectHigh, SubsHigh}
 
 pub any-subs : (m : Meant) → SubsHigh 0 m

@@ -6,7 +6,7 @@ use Rattle.bag_algebra.proofs.ByChildren.{height_of-node}
 use Rattle.bag_algebra.specs.Inputs.{sublinks-row_of_subs}
 use Rattle.bag_algebra.specs.Measures.{height_of}
 use Rattle.bag_algebra.specs.built.Measures.{subs_height}
-use Rattle.bag_algebra.specs.built.Openings.{shape_of_subs, row_of_subs, Base-is, Filter-is, Project_with-is, Join-is, Apply-is, Union-is, Intersect-is, Except-is, Distinct-is, Aggregate-is, Limit-is, Prov-is}
+use Rattle.bag_algebra.specs.built.Openings.{shape_of_subs, row_of_subs, Base-is, Filter-is, Project_with-is, Join-is, Apply-is, Union-is, Intersect-is, Except-is, Distinct-is, Aggregate-is, Limit-is}
 use Rattle.bag_algebra.specs.built.Patterns.{FilterOf, ProjectOf, JoinOf}
 use Rattle.bag_algebra.specs.declared.expr.Expr.{Expr}
 use Rattle.bag_algebra.specs.declared.expr.Item.{Item}

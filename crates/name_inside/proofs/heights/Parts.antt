@@ -46,7 +46,7 @@ use Rattle.name_seen_cores.proofs.Opened.{chain-means, paren-means, query-means,
 use Rattle.name_seen_cores.proofs.Queried.{chain-behind}
 use Rattle.name_seen_parts.proofs.Scoping.{all-behind}
 use Rattle.name_inside.proofs.heights.Nodes.{core-high, external-high, height-Apply, height-Join, limited-high, marked-high, set-high}
-use Rattle.name_inside.specs.heights.High.{FromHigh, IsHigh, ItemHigh, ListHigh, OptionalHigh, QueryHigh}
+use Rattle.name_inside.specs.heights.High.{FromHigh, ItemHigh, ListHigh, OptionalHigh, QueryHigh}
 
 -- ---- queries
 

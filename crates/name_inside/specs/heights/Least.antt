@@ -1,6 +1,6 @@
 -- How high at least what a query is made to is, read off its tree: one for each step of a chain and one for each core, over the highest of
 -- the parts. What stands in the tables and views that are read isn't looked at, and of a core's nodes only one is counted.
-use Rattle.std.specs.Prelude.{ℕ, suc, max, cond, nat_lt, List, [], ◌∷◌, map, fold, Option, Some, None, option_map, unwrap_or}
+use Rattle.std.specs.Prelude.{ℕ, suc, max, cond, nat_lt, List, [], ◌∷◌, fold, Option, unwrap_or}
 use Rattle.sql_tree.specs.Regular.{is_lateral}
 use Rattle.sql_tree.specs.declared.expression.ExprBody.TheFolds.{fold-ExprBody, fold-SelectItem, fold-SetTree, fold-FromSource, fold-ArmTree, fold-ExprStep, fold-ExprTree, fold-Core, fold-QueryTree, fold-SetStep, fold-FromItem, fold-FromTree, fold-JoinStep}
 use Rattle.sql_tree.specs.declared.expression.ExprBody.TheOpen.{ExprBody-F, SelectItem-F, SetTree-F, FromSource-F, ArmTree-F, ExprStep-F, ExprTree-F, Core-F, QueryTree-F, SetStep-F, FromItem-F, FromTree-F, JoinStep-F}

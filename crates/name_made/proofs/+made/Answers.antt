@@ -10,7 +10,7 @@ use Rattle.perm_values.specs.declared.kind.Kind.{Kind}
 use Rattle.name_meaning.specs.Expressions.{StepPart, ArmPart, in_kind, negated_if, times}
 use Rattle.name_meaning.specs.Meanings.{Surroundings, means_at, query_means_at}
 use Rattle.name_meaning.specs.Operands.{Operand, gives_of, need_of, node, operand, wanted_of}
-use Rattle.name_meaning.specs.Sublinks.{around_of, aggregate_made, aggregated, exists_meant, if_standing, in_argument, in_tested, null_at, rows_counted, scalar_meant}
+use Rattle.name_meaning.specs.Sublinks.{around_of, aggregated, exists_meant, if_standing, in_argument, in_tested, null_at, rows_counted, scalar_meant}
 use Rattle.name_meaning.specs.Trees.{arm_of, part_of, query_of, step_of, core_of, set_of_tree, from_item_of, from_of, join_of}
 use Rattle.name_meaning.specs.declared.need.Gives.TheVariants.{Common}
 use Rattle.name_meaning.specs.declared.need.Need.TheVariants.{Alike, OfKind}
@@ -18,13 +18,12 @@ use Rattle.name_seen_parts.specs.Named.{scopes_of, here_only}
 use Rattle.name_seen_parts.specs.Standing.{surroundings, around_beside, around_of as standing_of}
 use Rattle.sql_tree.specs.Regular.{is_lateral}
 use Rattle.sql_tree.specs.declared.query.Core.{the_lemmas}
-use Rattle.name_meaning.specs.nodes.Makes.{IsBuilt, Links, Makes, MakesArms, MakesMore, MakesSteps, before_of, with_sub, MakesQuery}
+use Rattle.name_meaning.specs.nodes.Makes.{Links, Makes, MakesArms, MakesMore, MakesSteps, before_of, with_sub, MakesQuery}
 use Rattle.name_meaning.proofs.ArmsMade.{behind-others, next-arm-made, next-step-made, operand-one}
 use Rattle.name_meaning.proofs.FormsMade.{aggregate-form, arm-is, between-form, case-else-form, case-form, chain-form, coalesce-form, column-form, compared-form, count-form, distinct-form, exists-form, in-list-form, in-query-form, integer-form, like-form, logic-form, nots-form, null-form, null-of-form, null-test-form, nullif-form, paren-form, quantified-form, scalar-form, signs-form, step-is, text-form, told, truth-form, truth-test-form}
 use Rattle.name_meaning.proofs.Linking.{aggregated-made, tested-made, untested-made}
 use Rattle.name_meaning.proofs.Parts.{more-more, node-made}
-use Rattle.bag_algebra.specs.declared.query.Query.TheVariants.{Prov}
-use Rattle.name_meaning.specs.Queries.{limited, may_not_ask}
+use Rattle.name_meaning.specs.Queries.{may_not_ask}
 use Rattle.name_made_parts.proofs.Coring.{core-none, core-some, clauses-made, item-so, none-kept, some-kept, star-is, table-star-is, value-is}
 use Rattle.name_made_parts.proofs.Querying.{chain-made, chain-of-one, core-is, paren-is, query-is}
 use Rattle.null_logic.specs.declared.operator.Operator.TheVariants as x
@@ -40,7 +39,6 @@ use Rattle.sql_tree.specs.declared.query.Core.{out-Core}
 use Rattle.sql_tree.specs.declared.query.SetStep.{SetStep}
 use Rattle.sql_tree.specs.declared.source.FromTree.{out-FromTree}
 use Rattle.sql_tree.specs.declared.source.JoinStep.{JoinStep}
-use Rattle.name_meaning.specs.nodes.Cored.{clauses_over}
 use Rattle.name_meaning.proofs.ItemLists.{value-listed}
 use Rattle.name_made_parts.specs.Cored.{Keeps, MakesClauses, MakesList, having_part, kept_of, select_parts, sources_meant}
 use Rattle.name_made_parts.specs.Sources.{JoinsMade, MakesSource, SourcesMade, join_count}

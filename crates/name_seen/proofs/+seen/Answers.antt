@@ -24,7 +24,7 @@ use Rattle.name_meaning.specs.declared.need.Need.TheVariants.{Alike as alike, Of
 use Rattle.name_meaning.proofs.Forms.{means-null, means-nullof, means-integer, means-text, means-truth, means-column, means-paren, means-nots, means-signs, means-logic, means-chain, means-compared, means-like, means-between, means-inlist, means-isnull, means-istruth, means-isdistinct, means-coalesce, means-exists, means-inquery, means-nullif, means-quantified, means-scalar}
 use Rattle.name_meaning.proofs.Joins.{joins-behind}
 use Rattle.name_seen_parts.specs.Named.{scopes_of}
-use Rattle.name_seen_parts.specs.Standing.{surroundings, around_beside, around_in_from}
+use Rattle.name_seen_parts.specs.Standing.{surroundings, around_beside}
 use Rattle.name_seen_cores.specs.Expressed.{ExpressionSeen, OperandsBehind, kind_over}
 use Rattle.name_seen_cores.specs.Inner.{exists_over, scalar_over, tested_over}
 use Rattle.name_seen_cores.proofs.Alone.{null-alone, known-alone, column-alone, told-by, told-so}
@@ -48,7 +48,6 @@ use Rattle.name_meaning.specs.Meanings.{Around, Part, QueryMeant}
 use Rattle.perm_catalog.specs.Contents.{Contents}
 use Rattle.name_meaning.specs.Queries.{set_chain, may_not_ask}
 use Rattle.name_meaning.specs.Trees.{core_of, from_item_of, from_of, item_of, join_of, set_of_tree, set_step_of, source_of}
-use Rattle.name_seen_parts.specs.Seen.{first_or}
 use Rattle.name_seen_parts.specs.Standing.{around_of}
 use Rattle.name_seen_parts.specs.Told.{Tells}
 use Rattle.name_seen_parts.specs.declared.refusal.Refusal.TheVariants.{Break as Broken}

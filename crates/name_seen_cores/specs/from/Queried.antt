@@ -6,7 +6,6 @@ use Rattle.name_meaning.specs.Cores.{settle}
 use Rattle.name_meaning.specs.Froms.{FromMeant}
 use Rattle.name_meaning.specs.Meanings.{QueryMeant}
 use Rattle.name_meaning.specs.Scopes.{ScopeItem, scope_of}
-use Rattle.name_meaning.specs.declared.answer.Break.{Break}
 use Rattle.name_meaning.specs.declared.scope.Scope.{Scope}
 use Rattle.name_meaning.specs.laws.Facts.{facts_of, both_facts}
 use Rattle.name_seen_parts.specs.Columns.{columns_of}

@@ -1,8 +1,8 @@
 -- An IMPACT that is accepted answers the rows that vanish, and deletes nothing.
-use Rattle.std.proofs.Common.{◌≡◌, ◌∙◌, ℕ, Bool, true, false, cond, List, [], length, Option, Some, Ok, IsTrue, refl, sym, ap, subst}
+use Rattle.std.proofs.Common.{◌≡◌, ◌∙◌, ℕ, Bool, true, false, cond, List, [], length, Option, Ok, IsTrue, refl, sym, ap, subst}
 use Rattle.std.specs.Option.{option_map_or}
 use Rattle.bag_algebra.proofs.BagLaws.{member_decides}
-use Rattle.bag_algebra.proofs.Members.{IsIn, member-in}
+use Rattle.bag_algebra.proofs.Members.{member-in}
 use Rattle.bag_algebra.proofs.Outcomes.{same_good}
 use Rattle.bag_algebra.specs.Bags.{Row, Bag, member}
 use Rattle.bag_algebra.specs.Fits.{TablesFit}
@@ -11,7 +11,6 @@ use Rattle.bag_algebra.specs.Outcome.{Outcome, Good, Bad, each}
 use Rattle.bag_algebra.specs.TableRows.{rows_in}
 use Rattle.bag_algebra.specs.declared.expr.Expr.{Expr}
 use Rattle.bag_algebra.specs.declared.query.Answer.{Answer}
-use Rattle.bag_algebra.specs.declared.query.Query.{Query}
 use Rattle.name_meaning.proofs.FittingTables.{tables-fit}
 use Rattle.name_meaning.proofs.Impacts.{impact-query_whole, impact-stands}
 use Rattle.name_meaning.specs.laws.Impacts.{ImpactStands}

@@ -14,7 +14,7 @@ use Rattle.perm_io.specs.Found.{Found}
 use Rattle.sql_tree.specs.declared.statement.Statement.{Statement}
 use Rattle.statement_meaning.proofs.Answered.{asked-select}
 use Rattle.statement_meaning.proofs.Impacts.{asked-impact, before-meets}
-use Rattle.statement_meaning.specs.laws.Lost.{AsksImpact, MeetsLost}
+use Rattle.statement_meaning.specs.laws.Lost.{MeetsLost}
 use Rattle.statement_meaning.specs.Answers.{Names, TakesTurn}
 use Rattle.statement_meaning.specs.Asking.{Asked, Settled, Begins, Explained, asked, asks, unless_broken}
 use Rattle.statement_meaning.specs.Turns.{Refused, Broken, Meets, answered, answer_text, identity_of, on_good, rows_before, rows_lost}

@@ -27,7 +27,7 @@ use Rattle.perm_engine.proofs.meaning.Turns.{some_run}
 use Rattle.perm_engine.specs.meaning.Run.{Ran, Runs, RunsNamed, RunsFile, RunsScript, RunsFrom, RunsWanted, Asks, GoesOn, GoesExplained, ended, after_text, after_files, with_more}
 use Rattle.perm_engine.specs.meaning.Scripts.{IsScriptOf, IsMisspelled}
 use Rattle.perm_engine.specs.meaning.Stops.{Stop, ToTheEnd, Misused, NoFile, LongFile, NoScript, At, script_limit}
-use Rattle.perm_engine.specs.meaning.Same.{MeetsFaults, SameStop, alike, by_faults, SameText, one as one_text, explained, SameTexts, IsUnbroken, SameRun}
+use Rattle.perm_engine.specs.meaning.Same.{MeetsFaults, SameStop, alike, by_faults, SameText, one as one_text, explained, IsUnbroken, SameRun}
 use Rattle.perm_engine.proofs.meaning.Breaks.{Spelled}
 
 -- ---- what became of a file

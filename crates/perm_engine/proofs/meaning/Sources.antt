@@ -1,7 +1,7 @@
 -- In FROM, a query with the word PROVENANCE is a source over the PROVENANCE of the same query without it.
 use Rattle.std.proofs.Common.{◌≡◌, ◌∙◌, ℕ, Bool, cond, List, [], ◌++◌, map, is_some, option_map, Option, Some, None, refl, sym, ap, subst}
 use Rattle.std.specs.Option.{option_map_or}
-use Rattle.perm_values.proofs.Lists.{front-none, back-none}
+use Rattle.perm_values.proofs.Lists.{back-none}
 use Rattle.bag_algebra.specs.declared.query.Query.{Query}
 use Rattle.bag_algebra.specs.declared.query.Query.TheVariants.{Prov}
 use Rattle.perm_catalog.specs.Contents.{Contents}
@@ -18,7 +18,7 @@ use Rattle.name_meaning.proofs.Opened.{CoreLayer, opened_core, shown_core}
 use Rattle.name_meaning.specs.Cores.{BodyPart, core_step}
 use Rattle.name_meaning.specs.Froms.{external, names_of, read_names, read_query, read_view, settled_columns, in_from}
 use Rattle.name_meaning.specs.Meanings.{Around, OutColumn, QueryMeant, QueryPart, query_means_at}
-use Rattle.name_meaning.specs.Queries.{count_columns, keys_breaks, keys_of, limited, plain_query, provenance_places, query_seen, query_with_provenance, set_chain}
+use Rattle.name_meaning.specs.Queries.{count_columns, keys_of, limited, plain_query, provenance_places, query_seen, query_with_provenance, set_chain}
 use Rattle.name_meaning.specs.Statements.{breaks, name_breaks, named_query_breaks, query_meant, resolved, resolved_body, taken, view_entry}
 use Rattle.name_meaning.specs.Trees.{set_of_tree, set_step_of}
 use Rattle.name_meaning.specs.declared.answer.Resolved.TheVariants as r

@@ -3,7 +3,7 @@ use Rattle.std.proofs.Common.{◌≡◌, ◌∙◌, ℕ, ◌<◌, true, List, []
 use Rattle.statement_meaning.specs.explains.Explains.{Explains, GivesTables, MeansTheSame}
 use Rattle.bag_algebra.proofs.TablesRead.{each_table-kept, reads_among-each}
 use Rattle.bag_algebra.specs.Fits.{TablesFit, bag_fits}
-use Rattle.bag_algebra.specs.Kinds.{kinds_of, width_of}
+use Rattle.bag_algebra.specs.Kinds.{width_of}
 use Rattle.bag_algebra.specs.Meaning.{Database}
 use Rattle.bag_algebra.specs.TablesRead.{EachTable}
 use Rattle.bag_algebra.specs.declared.query.Answer.{Answer}
@@ -11,7 +11,6 @@ use Rattle.perm_catalog.specs.Columns.{column_kinds}
 use Rattle.perm_catalog.specs.Contents.{Contents}
 use Rattle.perm_catalog.specs.Sound.{IsSoundAnswer}
 use Rattle.perm_values.specs.Rows.{KeysWithin}
-use Rattle.perm_values.specs.declared.key.Key.{Key}
 use Rattle.perm_values.specs.declared.kind.Kind.{Kind}
 use Rattle.perm_values.specs.declared.no_memory.NoMemory.{NoMemory}
 use Rattle.statement_meaning.specs.Ready.{CanExplain}

@@ -1,5 +1,3 @@
-use Rattle.std.proofs.Common.{sym, subst}
-use Rattle.bag_algebra.specs.declared.expr.Expr.{Expr}
 use Rattle.name_meaning.specs.declared.answer.Resolved.TheVariants as r
 use Rattle.name_statements.specs.declared.queries.Whole.{Whole}
 use Rattle.sql_tree.specs.declared.statement.StatementBody.TheVariants as st

@@ -1,5 +1,4 @@
-use Rattle.std.proofs.Common.{◌≡◌, ◌≤◌, drop, length, List}
-use Rattle.name_meaning.specs.Statements.{all_noted}
+use Rattle.std.proofs.Common.{◌≡◌, ◌≤◌}
 use Rattle.name_inside.proofs.Sorted.{NotedFrom}
 use Rattle.name_inside.proofs.noted.all_noted.Given as goal
 

@@ -1,5 +1,5 @@
 use Rattle.std.proofs.Common.{sym, ◌∙◌}
-use Rattle.name_seen_cores.proofs.Starred.{no-table, table_star-whole}
+use Rattle.name_seen_cores.proofs.Starred.{table_star-whole}
 use Rattle.name_seen_cores.proofs.listing.add_table_star.Goals as goal
 
 pub returns-in_ok-add_columns-in-Some : goal.returns-in_ok-add_columns-in-Some

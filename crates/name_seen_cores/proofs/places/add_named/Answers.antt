@@ -1,9 +1,8 @@
 use Rattle.std.specs.Prelude.{List, ℕ, Some}
-use Rattle.std.proofs.Common.{refl, ap, sym, arith, get_or}
+use Rattle.std.proofs.Common.{ap, arith, get_or}
 use Rattle.std.proofs.lemmas.List.{get_or_default}
 use Rattle.perm_values.specs.declared.kind.Kind.{Kind}
 use Rattle.perm_values.specs.declared.kind.Kind.TheVariants as kind
-use Rattle.name_meaning.specs.Meanings.{OutColumn}
 use Rattle.name_seen_cores.proofs.Named.{column_named, named-end, named-step}
 use Rattle.name_seen_cores.proofs.places.add_named.Goals as goal
 

@@ -1,6 +1,5 @@
 use Rattle.std.specs.Prelude.{Some}
-use Rattle.std.proofs.Common.{refl, ap}
-use Rattle.name_seen_cores.specs.from.Added.{facts_in}
+use Rattle.std.proofs.Common.{ap}
 use Rattle.name_seen_cores.proofs.places.with_places.Goals as goal
 
 pub returns : goal.returns

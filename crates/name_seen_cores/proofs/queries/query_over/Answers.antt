@@ -1,5 +1,5 @@
 use Rattle.std.proofs.Common.{sym, ◌∙◌}
-use Rattle.name_seen_cores.proofs.Queried.{keys-break, plain-so, proved-so}
+use Rattle.name_seen_cores.proofs.Queried.{plain-so, proved-so}
 use Rattle.name_seen_cores.proofs.queries.query_over.Goals as goal
 
 pub returns-then-not-asking : goal.returns-then-not-asking

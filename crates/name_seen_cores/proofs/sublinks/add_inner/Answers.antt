@@ -1,8 +1,6 @@
 use Rattle.std.specs.Prelude.{List, length, nat_eq}
 use Rattle.std.proofs.Common.{ap, ◌∙◌}
-use Rattle.name_meaning.specs.laws.Facts.{Facts, both_facts}
 use Rattle.name_seen_cores.specs.Inner.{kind_of_first}
-use Rattle.name_seen_cores.specs.from.Added.{facts_in}
 use Rattle.name_seen_parts.specs.declared.clauses.column.ShownColumn.{ShownColumn}
 use Rattle.name_seen_cores.proofs.Sublinked.{inner-is}
 use Rattle.name_seen_cores.proofs.sublinks.add_inner.Goals as goal

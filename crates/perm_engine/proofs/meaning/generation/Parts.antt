@@ -1,6 +1,5 @@
 -- Plans of the parts of a script: names, expressions, clauses and statements.
 use Rattle.std.proofs.Common.{◌≡◌, ℕ, zero, suc, List, [], refl, sym, subst}
-use Rattle.std.specs.Prelude.{codes}
 use Rattle.sql_lexer.specs.declared.token.TokenKind.TheVariants.{Word, Text}
 use Rattle.sql_tree.specs.grammar.Grammar.{plain_names, list_of}
 use Rattle.sql_tree.specs.grammar.Rules.{◌then◌, many, symbol, word}

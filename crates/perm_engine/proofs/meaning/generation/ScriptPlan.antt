@@ -1,5 +1,5 @@
 -- The plan of a generated script, and its text.
-use Rattle.std.proofs.Common.{◌≡◌, ◌∙◌, ℕ, zero, suc, ◌+◌, ◌%◌, ◌<◌, ◌^◌, Bool, true, false, List, [], ◌∷◌, ◌++◌, refl, sym, ap, ap₂, arith, append_assoc}
+use Rattle.std.proofs.Common.{◌≡◌, ◌∙◌, ℕ, zero, suc, ◌+◌, ◌%◌, ◌<◌, ◌^◌, Bool, List, [], ◌∷◌, ◌++◌, refl, sym, ap, ap₂, arith, append_assoc}
 use Rattle.std.specs.Prelude.{codes, if◌then◌else◌}
 use Rattle.std.specs.Fmt.{decimal, digits}
 use Rattle.std.specs.List.{flat_map, range_with_len}
@@ -13,7 +13,7 @@ use Rattle.sql_tree.specs.grammar.Sorts.{word_sort}
 use Rattle.sql_tree.specs.grammar.Symbols as n
 use Rattle.sql_tree.specs.declared.grammar.sort.Sort.TheVariants as s
 use Rattle.tree_texts.specs.plans.Plans.{Plan, a_word, as_symbol, both, one_last, one_more, present, text_of}
-use Rattle.perm_engine.specs.meaning.generation.Generated.{big_row, big_rows, comma, generated, queries, small_rows, tables}
+use Rattle.perm_engine.specs.meaning.generation.Generated.{big_row, big_rows, generated, queries, small_rows, tables}
 use Rattle.perm_engine.proofs.meaning.generation.Parts.{IsPlain, column, column_of, count_all, created, equal, from, from_joined, group_by, inserted, integers, is_in, less, more_rows, number, one_item, queried, query_as, row, select, select_where, sum_of, table, text_value, texts, traced, traced_groups, traced_where, two_items}
 use Rattle.tree_texts.specs.plans.Levels.{expression}
 use Rattle.perm_engine.proofs.meaning.generation.Rows.{line}

@@ -1,6 +1,5 @@
-use Rattle.std.proofs.Common.{◌≡◌, ◌∙◌, ◌⊎◌, List, ℕ, refl, sym, inl, inr, subst}
+use Rattle.std.proofs.Common.{◌≡◌, ◌∙◌, ◌⊎◌, List, ℕ, refl, sym, inl, inr}
 use Rattle.perm_engine.specs.meaning.words.Requests.{request_of}
-use Rattle.perm_engine.specs.declared.meaning.words.wanted.Wanted.{Wanted}
 use Rattle.perm_engine.specs.declared.meaning.words.wanted.Wanted.TheVariants.{Script, Generated, Misworded}
 use Rattle.perm_io.specs.Counts.{HasRisen}
 use Rattle.statement_meaning.specs.Answers.{can_be, over}

@@ -3,7 +3,6 @@ use Rattle.statement_meaning.specs.Answers.{can_be, over}
 use Rattle.perm_engine.specs.meaning.Ends.{EndsOne, over as output}
 use Rattle.perm_engine.specs.meaning.Run.{RunsScript}
 use Rattle.perm_engine.specs.declared.meaning.status.Status.TheVariants as status
-use Rattle.perm_engine.proofs.meaning.Running.{EndsOne-silent}
 use Rattle.perm_engine.proofs.run.run_generated.Goals as goal
 
 pub returns-in-Ok : goal.returns-in-Ok

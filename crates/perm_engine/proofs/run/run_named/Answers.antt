@@ -2,7 +2,7 @@ use Rattle.std.proofs.Common.{◌∙◌, List, ℕ, Err, refl, ap, inl, inr, sub
 use Rattle.perm_io.specs.Answers.{is_fault}
 use Rattle.perm_io.specs.Counts.{CountsFault, HasRisen}
 use Rattle.perm_io.specs.Found.{Missing, TooLong, Failed}
-use Rattle.statement_meaning.specs.Answers.{can_be, over}
+use Rattle.statement_meaning.specs.Answers.{over}
 use Rattle.perm_engine.specs.meaning.Ends.{over as output}
 use Rattle.perm_engine.specs.meaning.Run.{ended}
 use Rattle.perm_engine.specs.meaning.Stops.{NoFile, LongFile, FailedFile}

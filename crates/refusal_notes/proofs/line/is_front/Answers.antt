@@ -1,4 +1,4 @@
-use Rattle.std.proofs.Common.{◌≡◌, ◌∙◌, ◌+◌, length, take, get_or, sym, arith}
+use Rattle.std.proofs.Common.{◌≡◌, ◌∙◌, ◌+◌, sym, arith}
 use Rattle.refusal_notes.proofs.Fronts.{front-take, front-whole}
 use Rattle.refusal_notes.proofs.line.is_front.Goals as goal
 

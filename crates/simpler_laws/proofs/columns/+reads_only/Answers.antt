@@ -1,4 +1,4 @@
-use Rattle.std.proofs.Common.{◌≡◌, true, false, refl, not, sym, ap, ◌∙◌}
+use Rattle.std.proofs.Common.{◌≡◌, true, false, sym, ap, ◌∙◌}
 use Rattle.simpler_laws.specs.built.Reads.{all_parts_read_only, all_arms_read_only, reads_only-Op, reads_only-Chain, reads_only-Case, reads_only-IsNull, reads_only-IsTruth, reads_only-Same}
 use Rattle.simpler_laws.specs.Reads.{reads_only}
 use Rattle.bag_algebra.proofs.Truths.{second-decides, first-decides}

@@ -1,5 +1,4 @@
-use Rattle.std.proofs.Common.{sym, ◌∙◌, ap, refl, subst, ◌∷◌, []}
-use Rattle.bag_algebra.proofs.Truths.{left-true}
+use Rattle.std.proofs.Common.{sym, ◌∙◌, refl, subst, ◌∷◌, []}
 use Rattle.std.proofs.lemmas.Bool.{and_from}
 use Rattle.bag_algebra.specs.FaultFree.{faultless}
 use Rattle.query_laws.proofs.BuiltSpines.{projected-is}

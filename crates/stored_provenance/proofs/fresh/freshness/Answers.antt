@@ -5,7 +5,7 @@ use Rattle.perm_catalog.specs.Stored.{is_unchanged, first_changed}
 use Rattle.perm_catalog.specs.declared.entries.Kept.{Kept}
 use Rattle.perm_catalog.specs.declared.entries.Mark.{Mark}
 use Rattle.perm_catalog.specs.declared.entries.TableEntry.{TableEntry}
-use Rattle.stored_provenance.specs.Freshness.{freshness, state_of}
+use Rattle.stored_provenance.specs.Freshness.{state_of}
 use Rattle.stored_provenance.proofs.fresh.freshness.Goals as goal
 
 pub returns : goal.returns

@@ -1,4 +1,4 @@
-use Rattle.std.proofs.Common.{◌≡◌, ◌+◌, ◌++◌, drop, append-nil, sym, ap, ◌∙◌, arith}
+use Rattle.std.proofs.Common.{◌≡◌, ◌+◌, ◌++◌, drop, append-nil, sym, ap, ◌∙◌}
 use Rattle.bag_algebra.proofs.Rest.{from_here}
 use Rattle.bag_algebra.specs.Inputs.{given}
 use Rattle.bag_algebra.specs.TablesRead.{tables_read}

@@ -1,4 +1,4 @@
-use Rattle.std.proofs.Common.{◌≡◌, ℕ, List, [], Option, Some, refl, sym, ap, subst, ◌∙◌, unwrap_or}
+use Rattle.std.proofs.Common.{◌≡◌, ℕ, List, [], Option, sym, ap, subst, ◌∙◌, unwrap_or}
 use Rattle.std.specs.Prelude.{IfSome}
 use Rattle.bag_algebra.specs.Bags.{Bag, Row}
 use Rattle.bag_algebra.specs.Kinds.{kinds_of, shape}
@@ -6,11 +6,10 @@ use Rattle.bag_algebra.specs.Meaning.{denote, meaning}
 use Rattle.bag_algebra.specs.Outcome.{Good}
 use Rattle.bag_algebra.specs.Rewriting.{SameRows}
 use Rattle.bag_algebra.specs.TableRows.{rows_in}
-use Rattle.bag_algebra.specs.TablesRead.{EachTable}
 use Rattle.bag_algebra.specs.declared.query.Query.{Query}
 use Rattle.contribution.specs.SameMeaning.{SameMeaning}
 use Rattle.perm_catalog.specs.Contents.{Contents}
-use Rattle.perm_catalog.specs.Sound.{IsSound, IsSoundTable}
+use Rattle.perm_catalog.specs.Sound.{IsSoundTable}
 use Rattle.perm_catalog.specs.Stored.{IsFresh, IsSoundMark}
 use Rattle.perm_catalog.specs.declared.entries.Mark.{Mark}
 use Rattle.perm_catalog.specs.declared.entries.TableEntry.{TableEntry}

@@ -1,4 +1,4 @@
-use Rattle.std.proofs.Common.{sym, take}
+use Rattle.std.proofs.Common.{sym}
 use Rattle.std.proofs.lemmas.List.{take_all}
 use Rattle.name_meaning.proofs.United.{united-none}
 use Rattle.name_seen_parts.specs.Standing.{surroundings}

@@ -1,6 +1,6 @@
 use Rattle.std.specs.Prelude.{[], List, Some, option_map}
 use Rattle.std.specs.Option.{option_map_or}
-use Rattle.std.proofs.Common.{refl, ap, sym, ◌∙◌, ◌≡◌}
+use Rattle.std.proofs.Common.{ap, sym, ◌∙◌, ◌≡◌}
 use Rattle.bag_algebra.specs.Kinds.{kinds_of}
 use Rattle.perm_catalog.specs.Columns.{column_kinds}
 use Rattle.name_meaning.specs.Froms.{names_of, settled_columns, table_columns}

@@ -1,11 +1,10 @@
 use Rattle.std.specs.Prelude.{List, ◌++◌, ◌∷◌, []}
-use Rattle.std.proofs.Common.{ap, refl, sym, ◌∙◌, drop, take}
-use Rattle.std.proofs.lemmas.List.{drop_all, take_all}
+use Rattle.std.proofs.Common.{ap, refl, sym, ◌∙◌, take}
+use Rattle.std.proofs.lemmas.List.{drop_all}
 use mathlib.Core.List.{reverse}
 use Rattle.name_meaning.specs.Statements.{repeated_columns}
 use Rattle.name_meaning.specs.declared.answer.Break.{Break}
 use Rattle.name_seen_parts.specs.Seen.{first_or}
-use Rattle.sql_tree.specs.declared.statement.ColumnDef.{ColumnDef}
 use Rattle.name_statements.specs.Earlier.{texts_of}
 use Rattle.name_statements.proofs.Broken.{columns-first, columns-step, column-new, column-repeated, texts-behind}
 use Rattle.name_statements.proofs.seen.names.first_repeated.Goals as goal

@@ -1,5 +1,5 @@
 use Rattle.std.specs.Prelude.{List}
-use Rattle.std.proofs.Common.{ap, refl, sym, ◌∙◌, take}
+use Rattle.std.proofs.Common.{ap, refl, sym, ◌∙◌}
 use Rattle.std.proofs.lemmas.List.{take_all}
 use Rattle.name_seen_parts.specs.Columns.{columns_of}
 use Rattle.name_meaning.specs.Froms.{names_of, settled_columns}

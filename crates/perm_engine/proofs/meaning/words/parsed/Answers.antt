@@ -1,9 +1,9 @@
-use Rattle.std.proofs.Common.{rules, ◌≡◌, ◌∙◌, ap, ap₂, refl, true, subst, Some, codes, sym}
+use Rattle.std.proofs.Common.{rules, ◌≡◌, ◌∙◌, ap, ap₂, true, subst, Some, codes}
 use Rattle.std.proofs.lemmas.Result.{IfOk-weaker}
 use Rattle.clap.specs.Faults.{fault_of, is_simple_and_free}
 use Rattle.clap.specs.Kinds.{FailsBy}
 use Rattle.clap.specs.Simple.{App, app_of, app_of_fields, is_simple, matches_of, new_app, on_top, with_rule}
-use Rattle.clap.specs.Walk.{Rule, rule_of, texts}
+use Rattle.clap.specs.Walk.{rule_of, texts}
 use Rattle.clap.specs.declared.builder.value_parser.ValueParser.TheVariants.{Unsigned}
 use Rattle.perm_engine.specs.meaning.words.Requests.{command, generate_rule, script_rule}
 use Rattle.perm_engine.proofs.meaning.words.Asked.{is_free_command, is_refused, is_simple_command, is_taken}

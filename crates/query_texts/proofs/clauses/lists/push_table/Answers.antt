@@ -2,7 +2,7 @@ use Rattle.std.proofs.Common.{◌∙◌, ◌++◌, ap, unwrap_or}
 use Rattle.perm_values.proofs.Results.{when-ok}
 use Rattle.query_texts.specs.clauses.Frames.{called_in}
 use Rattle.query_texts.specs.clauses.Names.{nameless}
-use Rattle.query_texts.specs.clauses.ClauseTexts.{listed_text, table_text}
+use Rattle.query_texts.specs.clauses.ClauseTexts.{table_text}
 use Rattle.query_texts.proofs.clauses.lists.push_table.Goals as goal
 
 pub returns-in-Some : goal.returns-in-Some

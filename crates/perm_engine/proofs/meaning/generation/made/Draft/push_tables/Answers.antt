@@ -1,4 +1,4 @@
-use Rattle.std.proofs.Common.{rules, ◌∙◌, ◌++◌, ap, List, ℕ}
+use Rattle.std.proofs.Common.{◌∙◌, ◌++◌, ap, ℕ}
 use Rattle.std.specs.Prelude.{codes}
 use Rattle.perm_engine.proofs.meaning.generation.Rows.{two_pieces}
 use Rattle.perm_engine.proofs.meaning.generation.made.Draft.push_tables.Goals as goal
