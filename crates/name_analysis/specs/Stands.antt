@@ -10,7 +10,8 @@ use Rattle.bag_algebra.specs.declared.query.Answer.{Answer}
 use Rattle.perm_catalog.specs.Contents.{Contents}
 use Rattle.sql_tree.specs.declared.statement.StatementBody.{StatementBody}
 use Rattle.sql_tree.specs.declared.statement.StatementBody.TheVariants as st
-use Rattle.name_meaning.specs.laws.Impacts.{ImpactStands, IsHeldTable}
+use Rattle.name_meaning.specs.laws.Impacts.{ImpactStands}
+use Rattle.perm_catalog.specs.Held.{IsHeldTable}
 use Rattle.name_meaning.specs.Meanings.{QueryMeant}
 use Rattle.name_meaning.specs.Scopes.{KnownColumn}
 use Rattle.name_meaning.specs.Statements.{columns_of, impact_query, query_meant}

@@ -22,7 +22,7 @@ use Rattle.sql_tree.specs.declared.source.FromTree.{FromTree}
 use Rattle.sql_tree.specs.declared.source.JoinStep.{JoinStep, out-JoinStep}
 use Rattle.sql_tree.specs.declared.source.ScopeMark.{ScopeMark}
 use Rattle.name_meaning.proofs.Equations.{token, selectitem-star, selectitem-tablestar, selectitem-value, fromsource-named, fromsource-inner}
-use Rattle.name_meaning.specs.Cores.{BodyPart, Clauses, clause_breaks, core_clauses, core_over, core_seen, core_unlooked, group_break, group_scope, has_some, word_breaks}
+use Rattle.name_meaning.specs.Cores.{BodyPart, ClausesMeant, clause_breaks, core_clauses, core_over, core_seen, core_unlooked, group_break, group_scope, has_some, word_breaks}
 use Rattle.name_meaning.specs.Froms.{FromMeant, FromPart, ItemMeant, JoinPart, Read, SourcePart, beside_from, both_known, first_item, from_all, from_more, in_on, item_meant, join_all, label_of, optional_breaks, on_meant, read_named, read_of, scope_items, scope_name, table_columns, applied, beside_items, in_from, in_clause, optional_inside, optional_meant, no_from}
 use Rattle.name_meaning.proofs.Lateral.{join-lateral, join-plain, lateral_item, plain_item, plainly}
 use Rattle.sql_tree.specs.Regular.{is_lateral}
@@ -425,7 +425,7 @@ module _ (around : Around) (word : Option ℕ) (has_from is_distinct : Bool) (it
   abbrev list_here : Surroundings
   list_here = in_clause wide_scope around.outer true
 
-  abbrev seen_clauses : Clauses
+  abbrev seen_clauses : ClausesMeant
   seen_clauses = core_clauses where_here list_here wide_scope has_from input condition having items
 
   looked-over : input.breaks ≡ []

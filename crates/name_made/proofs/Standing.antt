@@ -27,7 +27,7 @@ use Rattle.name_made_parts.specs.Cored.{items_meant}
 use Rattle.name_made_parts.specs.Sources.{JoinsMade, MakesBeside, MakesJoin, MakesOn, MakesSource, join_count, join_on_kept}
 use Rattle.name_made_parts.proofs.Coring.{next-listed}
 use Rattle.name_made_parts.proofs.Sourcing.{both-count, join-fields, join-made, join-more, lateral-made, one-item}
-use Rattle.name_made_parts.specs.declared.asked.cores.Kept.{Kept}
+use Rattle.name_made_parts.specs.declared.asked.cores.MadeCondition.{MadeCondition}
 
 pub of-on : {X E : Type 0} (P Q : Type 0) (result : Result X E) → (P → Q) → OnOk result P → OnOk result Q
 of-on P Q (Ok x) f p = f p
@@ -89,7 +89,7 @@ fields c tree = record {
   condition = option_map (part_of c) (out-JoinStep tree).condition;
 }
 
-pub tree-join : (c : Contents) (outer : List Scope) (tree : JoinStep) (first before : ℕ) (scope : Scope) (whole right after : Query) (kept : Kept)
+pub tree-join : (c : Contents) (outer : List Scope) (tree : JoinStep) (first before : ℕ) (scope : Scope) (whole right after : Query) (kept : MadeCondition)
     → is_lateral (out-JoinStep tree).word ≡ false
     → MakesOn outer (option_map (part_of c) (out-JoinStep tree).condition) first (suc before) scope kept
     → ((earlier : List (List ℕ)) → MakesSource ((from_item_of c (out-JoinStep tree).item).means (in_from outer) earlier) right)

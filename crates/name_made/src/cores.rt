@@ -17,7 +17,7 @@ use crate::expressions::made;
 use crate::sources::sources_made;
 use bag_algebra::{Aggr, Item, Query};
 use name_made_parts::{
-    Kept, add_star, add_table_star, behind_aggregates, clauses_of, groups_of, item_kind, kept_of,
+    MadeCondition, add_star, add_table_star, behind_aggregates, clauses_of, groups_of, item_kind, kept_of,
     listed_of, nothing_kept, scope_grouped, scope_or_none,
 };
 use name_meaning::{Clauses, Condition, Listed, Scope, Within, add_value, beside, core_of};
@@ -88,7 +88,7 @@ fn selected_made(
         wanted.now made.0 made.1) }
 {
     let kept = condition_made(&core.having, true, around, scope)?;
-    let Kept {
+    let MadeCondition {
         condition,
         aggregates,
     } = kept;
@@ -103,7 +103,7 @@ pub(crate) fn condition_made(
     in_groups: bool,
     around: &Around,
     scope: &Scope,
-) -> Result<Kept, NoMemory>
+) -> Result<MadeCondition, NoMemory>
     requires { IsSound around.now.catalog.now }
     ensures { IfOk result (Keeps (optional_meant
         (in_clause (here_only (not in_groups) scope.now) (scopes_of around.now.outer.now) in_groups)
@@ -122,7 +122,7 @@ fn kept_made(
     in_groups: bool,
     around: &Around,
     scope: &Scope,
-) -> Result<Kept, NoMemory>
+) -> Result<MadeCondition, NoMemory>
     requires { IsSound around.now.catalog.now }
     ensures { IfOk result (Keeps (Some (means_at (part_of around.now.catalog.now tree.now)
         (in_clause (here_only (not in_groups) scope.now) (scopes_of around.now.outer.now) in_groups)))) }

@@ -11,7 +11,7 @@ use crate::cores::condition_made;
 use crate::queries::query_made;
 use bag_algebra::Query;
 use name_made_parts::{
-    Kept, behind, input_or_single, join_kind, marked_of, named_item, segment, shown_names,
+    MadeCondition, behind, input_or_single, join_kind, marked_of, named_item, segment, shown_names,
     with_lateral, with_next, with_right,
 };
 use name_meaning::Scope;
@@ -126,7 +126,7 @@ fn on_made(
     before: usize,
     around: &Around,
     scope: &Scope,
-) -> Result<Kept, NoMemory>
+) -> Result<MadeCondition, NoMemory>
     requires { IsSound around.now.catalog.now }
     ensures { IfOk result (MakesOn (scopes_of around.now.outer.now)
         (option_map (part_of around.now.catalog.now) condition.now) first (suc before) scope.now) }

@@ -29,7 +29,7 @@ use Rattle.name_seen_parts.proofs.Scoping.{more-behind}
 use Rattle.name_made_parts.proofs.Coring.{own-whole}
 use Rattle.name_made_parts.specs.Cored.{AreKept}
 use Rattle.name_meaning.specs.declared.nodes.cores.Condition.{Condition}
-use Rattle.name_made_parts.specs.declared.asked.cores.Kept.{Kept}
+use Rattle.name_made_parts.specs.declared.asked.cores.MadeCondition.{MadeCondition}
 
 -- ---- items in scope
 
@@ -120,11 +120,11 @@ first-made earlier m first scope made makes = record { makes = λ whole stands. 
 abbrev on_condition : Option Meant → Condition
 on_condition on = record { expr = (on_built on).expr; subs = (on_built on).subs }
 
-kept-so : (on : Option Meant) (kept : Kept) → AreKept on kept → kept_or_yes kept.condition ≡ on_condition on
+kept-so : (on : Option Meant) (kept : MadeCondition) → AreKept on kept → kept_or_yes kept.condition ≡ on_condition on
 kept-so None kept is = ap kept_or_yes is.condition
 kept-so (Some m) kept is = ap kept_or_yes is.condition
 
-plainly-made : (outer : List Scope) (left : FromMeant) (step : JoinPart) (first count : ℕ) (scope : Scope) (before right after : Query) (kept : Kept)
+plainly-made : (outer : List Scope) (left : FromMeant) (step : JoinPart) (first count : ℕ) (scope : Scope) (before right after : Query) (kept : MadeCondition)
     → MakesOn outer step.condition first count scope kept → MakesSource (plain_item outer left step) right
     → after ≡ join_on_kept (join_kind step.word) before right kept
     → ((items : List ScopeItem) → (plainly outer left step (plain_item outer left step)).items ≡ Some items → length items ≡ count)
@@ -148,7 +148,7 @@ plainly-made outer left step first count scope before right after kept on item i
     ∙ ap (λ (k : Condition). Join (join_kind step.word) left.query m.query k.expr k.subs) (kept-so sees kept keeps)
 
 -- a join of what is made
-pub join-made : (outer : List Scope) (step : JoinPart) (first before : ℕ) (scope : Scope) (whole right after : Query) (kept : Kept)
+pub join-made : (outer : List Scope) (step : JoinPart) (first before : ℕ) (scope : Scope) (whole right after : Query) (kept : MadeCondition)
     → is_lateral step.word ≡ false → MakesOn outer step.condition first (suc before) scope kept
     → ((earlier : List (List ℕ)) → MakesSource (step.item.means (in_from outer) earlier) right)
     → after ≡ join_on_kept (join_kind step.word) whole right kept → MakesJoin outer step first before scope whole after

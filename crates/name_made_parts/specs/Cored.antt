@@ -20,7 +20,7 @@ use Rattle.name_meaning.specs.declared.nodes.cores.Condition.{Condition}
 use Rattle.name_meaning.specs.declared.nodes.cores.Listed.{Listed}
 use Rattle.name_meaning.specs.declared.nodes.within.Within.{Within}
 use Rattle.name_seen_parts.specs.Named.{here_only}
-use Rattle.name_made_parts.specs.declared.asked.cores.Kept.{Kept}
+use Rattle.name_made_parts.specs.declared.asked.cores.MadeCondition.{MadeCondition}
 
 -- ---- the parts of a core
 
@@ -59,7 +59,7 @@ in_groups around scope = in_clause scope around.outer true
 abbrev pub condition_of : Meant → Condition
 condition_of m = record { expr = (optional_built (Some m)).expr; subs = (optional_built (Some m)).subs }
 
-abbrev pub kept_of : Expr → Within → Kept
+abbrev pub kept_of : Expr → Within → MadeCondition
 kept_of expr found = record { condition = Some (record { expr = expr; subs = found.subs }); aggregates = found.aggregates }
 
 -- what a condition breaks, if there is one
@@ -68,12 +68,12 @@ own_breaks None = []
 own_breaks (Some m) = m.breaks
 
 -- a condition with its sublinks, and its aggregates
-pub record AreKept (meant : Option Meant) (kept : Kept) : Type 0 where
+pub record AreKept (meant : Option Meant) (kept : MadeCondition) : Type 0 where
   pub condition : kept.condition ≡ option_map condition_of meant
   pub aggregates : kept.aggregates ≡ (optional_built meant).aggregates
 
 -- made, where it breaks nothing
-abbrev pub Keeps : Option Meant → Kept → Type 0
+abbrev pub Keeps : Option Meant → MadeCondition → Type 0
 Keeps meant kept = own_breaks meant ≡ [] → AreKept meant kept
 
 -- ---- the list

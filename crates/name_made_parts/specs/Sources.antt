@@ -17,7 +17,7 @@ use Rattle.name_meaning.specs.declared.scope.Scope.{Scope}
 use Rattle.name_made_parts.specs.declared.shown.ShownNames.{ShownNames}
 use Rattle.name_made_parts.specs.Cored.{Keeps}
 use Rattle.name_meaning.specs.declared.nodes.cores.Condition.{Condition}
-use Rattle.name_made_parts.specs.declared.asked.cores.Kept.{Kept}
+use Rattle.name_made_parts.specs.declared.asked.cores.MadeCondition.{MadeCondition}
 
 abbrev pub text_of : Name → List ℕ
 text_of name = name.text
@@ -72,7 +72,7 @@ abbrev pub MakesSource : ItemMeant → Query → Type 0
 MakesSource m made = m.breaks ≡ [] → made ≡ m.query
 
 -- a condition of ON made, where it breaks nothing and its items stand there in the scope
-abbrev pub MakesOn : List Scope → Option Part → ℕ → ℕ → Scope → Kept → Type 0
+abbrev pub MakesOn : List Scope → Option Part → ℕ → ℕ → Scope → MadeCondition → Type 0
 MakesOn outer condition first count scope kept = (items : List ScopeItem) → StandsIn (Some items) first scope → length items ≡ count
     → Keeps (on_meant outer (Some items) condition) kept
 
@@ -81,7 +81,7 @@ abbrev pub kept_or_yes : Option Condition → Condition
 kept_or_yes None = record { expr = always; subs = [] }
 kept_or_yes (Some condition) = condition
 
-abbrev pub join_on_kept : JoinKind → Query → Query → Kept → Query
+abbrev pub join_on_kept : JoinKind → Query → Query → MadeCondition → Query
 join_on_kept kind left right kept = Join kind left right (kept_or_yes kept.condition).expr (kept_or_yes kept.condition).subs
 
 -- an item made whose subquery sees as many items, where it breaks nothing and they stand there in the scope

@@ -9,7 +9,7 @@ mod united;
 
 pub(crate) use cores::condition_of;
 pub use cores::{
-    Kept, behind_aggregates, clauses_of, groups_of, kept_of, listed_of, nothing_kept,
+    MadeCondition, behind_aggregates, clauses_of, groups_of, kept_of, listed_of, nothing_kept,
     scope_grouped, scope_or_none,
 };
 pub use items::item_kind;

@@ -11,7 +11,7 @@ mod standing;
 mod stars;
 
 pub use asked::{
-    Kept, alike_behind, alike_of_all, alike_of_arms, alike_of_case, alike_of_three, alike_of_two,
+    MadeCondition, alike_behind, alike_of_all, alike_of_arms, alike_of_case, alike_of_three, alike_of_two,
     behind_aggregates, chain_kinds, clauses_of, groups_of, item_kind, kept_of, kind_or_any,
     limit_keys, listed_of, nothing_kept, scalar_kind, scope_grouped, scope_or_none, shown_names,
     tested_kind,

@@ -8,7 +8,7 @@ ghost use Rattle.name_meaning.specs.Froms.{external, join_kind, marked, read_nam
 ghost use Rattle.name_meaning.specs.Meanings.{QueryMeant};
 ghost use Rattle.name_made_parts.specs.Sources.{Shows, beside_left, join_count, join_on_kept, kept_or_yes, read_viewed, text_of};
 
-use crate::asked::{Kept, condition_of, nothing_kept};
+use crate::asked::{MadeCondition, condition_of, nothing_kept};
 use crate::shown::ShownNames;
 use bag_algebra::{JoinKind, Query};
 use name_meaning::{
@@ -191,7 +191,7 @@ pub fn with_right(
     kind: JoinKind,
     whole: Query,
     right: Result<Query, NoMemory>,
-    kept: Result<Kept, NoMemory>,
+    kept: Result<MadeCondition, NoMemory>,
 ) -> Result<Query, NoMemory>
     ensures { IfOk result (λ made. IsOkAnd right (λ right. IsOkAnd kept (λ kept.
         made ≡ join_on_kept kind whole right kept))) }
@@ -216,7 +216,7 @@ pub fn with_lateral(
 }
 
 /// The condition that is kept; TRUE, if there is none.
-fn kept_or_yes(alloc: Global, kept: Kept) -> Condition
+fn kept_or_yes(alloc: Global, kept: MadeCondition) -> Condition
     ensures { result ≡ kept_or_yes kept.condition }
 {
     match condition_of(kept) {

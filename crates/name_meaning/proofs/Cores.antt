@@ -17,7 +17,7 @@ use Rattle.bag_algebra.specs.declared.query.Query.{Query}
 use Rattle.bag_algebra.specs.declared.query.Query.TheVariants.{Project, Aggregate}
 use Rattle.sql_tree.specs.declared.name.ColRef.{ColRef}
 use Rattle.bag_algebra.proofs.Truths.{left-false, right-false}
-use Rattle.name_meaning.specs.Cores.{settle_known, optional_built, group_break, group_place, group_scope, is_grouped, filtered, distinct_if, core_query, Clauses, list_columns, before_list, clauses_query, core_clauses, clause_breaks}
+use Rattle.name_meaning.specs.Cores.{settle_known, optional_built, group_break, group_place, group_scope, is_grouped, filtered, distinct_if, core_query, ClausesMeant, list_columns, before_list, clauses_query, core_clauses, clause_breaks}
 use Rattle.name_meaning.specs.Froms.{FromMeant, condition_breaks, in_clause, optional_meant, optional_breaks}
 use Rattle.name_meaning.specs.Items.{Made, SelectPart, made_items, items_breaks}
 use Rattle.name_meaning.specs.Meanings.{Surroundings, Built, Meant, Part, broken_if, seen_kind, unites, settled}
@@ -182,7 +182,7 @@ module _ (outer : List Scope) (rows : List (List Kind)) (scope_items : List Scop
   abbrev with_groups : Option (List ℕ) → Scope
   with_groups places = record own { groups = places }
 
-  abbrev clauses : Option (List ℕ) → Option Part → Clauses
+  abbrev clauses : Option (List ℕ) → Option Part → ClausesMeant
   clauses places having =
       core_clauses (in_clause own outer false) (in_clause (with_groups places) outer true) (with_groups places) has_from from condition having items
 
@@ -196,7 +196,7 @@ module _ (outer : List Scope) (rows : List (List Kind)) (scope_items : List Scop
   grouped-clauses : (having : Option Part) → GoodOptional having → clause_breaks own condition groups having (clauses (Some group_places) having) ≡ []
       → WellFormed rows (clauses_query (clauses (Some group_places) having) is_distinct wanted)
   grouped-clauses having good_having whole =
-      let k : Clauses = clauses (Some group_places) having in
+      let k : ClausesMeant = clauses (Some group_places) having in
       let here : Surroundings = in_clause (with_groups (Some group_places)) outer true in
       let in_where : List Break = optional_breaks condition k.where_meant in
       let in_groups : List Break = flat_map (group_break own) groups in
@@ -216,7 +216,7 @@ module _ (outer : List Scope) (rows : List (List Kind)) (scope_items : List Scop
       → clause_breaks own condition groups having (clauses None having) ≡ [] → WellFormed rows (clauses_query (clauses None having) is_distinct wanted)
   plain-clauses (Some part) none alone whole = absurd (true≢false none)
   plain-clauses None none alone whole =
-      let k : Clauses = clauses None None in
+      let k : ClausesMeant = clauses None None in
       let here : Surroundings = in_clause own outer true in
       let in_where : List Break = optional_breaks condition k.where_meant in
       let in_groups : List Break = flat_map (group_break own) groups in

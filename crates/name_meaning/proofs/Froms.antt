@@ -32,9 +32,9 @@ use Rattle.perm_catalog.specs.Changes.{table_named, view_named}
 use Rattle.perm_catalog.specs.Columns.{column_kinds}
 use Rattle.perm_catalog.specs.Contents.{Contents}
 use Rattle.perm_catalog.specs.Sound.{IsSound, IsSoundTable, IsSoundView}
-use Rattle.perm_catalog.specs.Stored.{IsSoundMark}
+use Rattle.perm_catalog.specs.Stored.{IsSoundStored}
 use Rattle.perm_catalog.specs.declared.column.Column.{Column}
-use Rattle.perm_catalog.specs.declared.entries.Mark.{Mark}
+use Rattle.perm_catalog.specs.declared.entries.StoredQuery.{StoredQuery}
 use Rattle.perm_catalog.specs.declared.entries.TableEntry.{TableEntry}
 use Rattle.perm_catalog.specs.declared.entries.ViewEntry.{ViewEntry}
 use Rattle.sql_tree.specs.Regular.{is_lateral}
@@ -135,8 +135,8 @@ plain-formed rows query names None f within = f
 plain-formed rows query names (Some places) f within = based-formed rows query places (External (names_at names places)) f within (length-map places _)
 
 module _ (c : Contents) (sound : IsSound c) where
-  table-formed : (rows : List (List Kind)) (id : ℕ) (name : List ℕ) (columns : List Column) (held : Bag) (stored : Option Mark)
-      → IfSome stored (IsSoundMark c columns held) → WellFormed rows (table_with id name columns stored)
+  table-formed : (rows : List (List Kind)) (id : ℕ) (name : List ℕ) (columns : List Column) (held : Bag) (stored : Option StoredQuery)
+      → IfSome stored (IsSoundStored c columns held) → WellFormed rows (table_with id name columns stored)
   table-formed rows id name columns held None is =
       let l = length-map columns (λ (column : Column). column.kind) in
       let m : length (names_of (table_columns columns)) ≡ length (all_places columns) =

@@ -33,7 +33,8 @@ use Rattle.name_meaning.specs.Statements.{alone, bare, condition_made, delete_br
 use Rattle.name_meaning.specs.Trees.{part_of, query_of}
 use Rattle.name_meaning.specs.declared.answer.Break.{Break}
 use Rattle.name_meaning.specs.declared.rule.Rule.TheVariants as rule
-use Rattle.name_meaning.specs.laws.Impacts.{ImpactStands, IsHeldTable}
+use Rattle.name_meaning.specs.laws.Impacts.{ImpactStands}
+use Rattle.perm_catalog.specs.Held.{IsHeldTable}
 use Rattle.name_meaning.specs.laws.Known.{column_kinds_of}
 use Rattle.name_meaning.specs.laws.Standing.{AggregatesStand, StandAt}
 use Rattle.name_meaning.proofs.Cores.{formed-condition}

@@ -12,7 +12,7 @@ use Rattle.bag_algebra.specs.declared.query.Query.{Query}
 use Rattle.bag_algebra.specs.declared.query.Query.TheVariants.{Project}
 use Rattle.sql_tree.specs.declared.name.ColRef.{ColRef}
 use Rattle.contribution.proofs.WhereGood.{Every, every-append}
-use Rattle.name_meaning.specs.Cores.{settle, settle_known, optional_built, group_break, group_scope, filtered, aggregated_input, distinct_if, core_query, Clauses, list_columns, before_list, clauses_query, core_meant, core_unlooked, core_clauses, clause_breaks, core_over, word_breaks, core_seen}
+use Rattle.name_meaning.specs.Cores.{settle, settle_known, optional_built, group_break, group_scope, filtered, aggregated_input, distinct_if, core_query, ClausesMeant, list_columns, before_list, clauses_query, core_meant, core_unlooked, core_clauses, clause_breaks, core_over, word_breaks, core_seen}
 use Rattle.name_meaning.specs.Froms.{FromMeant, in_clause, optional_meant, optional_breaks}
 use Rattle.name_meaning.specs.Items.{Made, SelectPart, made_items, named_from, items_breaks}
 use Rattle.name_meaning.specs.Meanings.{Surroundings, Meant, Part, Around, OutColumn, is_whole}
@@ -44,7 +44,7 @@ kinds-core input condition groups having list is_distinct =
     ∙ kinds_of-Project (filtered rows having) list.items list.subs
 
 -- a list that is known, at the kinds that are wanted of it
-kinds-clauses : (k : Clauses) (list : ListIsKnown k.list) (is_distinct : Bool) (wanted : List Kind)
+kinds-clauses : (k : ClausesMeant) (list : ListIsKnown k.list) (is_distinct : Bool) (wanted : List Kind)
     → kinds_of (clauses_query k is_distinct wanted) ≡ settle (named_from 1 list.titles) wanted
 kinds-clauses k list is_distinct wanted =
     let columns : List OutColumn = named_from 1 list.titles in
@@ -93,7 +93,7 @@ module _ (Sound : Type 0) where
   GoodOptionalPart (Some part) = GoodPart Sound part
 
   -- FROM, whose places are named, and the clauses
-  pub record GoodClauses (k : Clauses) : Type 0 where
+  pub record GoodClauses (k : ClausesMeant) : Type 0 where
     pub input : Sound → AreNamed (facts_of k.input.query).places
     pub condition : GoodOptional k.where_meant
     pub having : GoodOptional k.having_meant
@@ -104,10 +104,10 @@ module _ (Sound : Type 0) where
   named-filter sound facts (Some m) named good =
       every-append IsNamed facts.places (sub_facts (m.make kind.Boolean nothing_before).subs).places named (good.named sound kind.Boolean nothing_before)
 
-  abbrev list_made : Clauses → List Kind → Made
+  abbrev list_made : ClausesMeant → List Kind → Made
   list_made k wanted = made_items k.list (settle_known (list_columns k) wanted) (before_list k)
 
-  named-clauses : Sound → (k : Clauses) (is_distinct : Bool) (wanted : List Kind) → GoodClauses k → AreNamed (facts_of (clauses_query k is_distinct wanted)).places
+  named-clauses : Sound → (k : ClausesMeant) (is_distinct : Bool) (wanted : List Kind) → GoodClauses k → AreNamed (facts_of (clauses_query k is_distinct wanted)).places
   named-clauses sound k is_distinct wanted good =
       let input : Facts = facts_of k.input.query in
       let condition = named-filter sound input k.where_meant (good.input sound) good.condition in
@@ -117,7 +117,7 @@ module _ (Sound : Type 0) where
       (every-append IsNamed (filter_facts (filter_facts input k.where_meant) k.having_meant).places (sub_facts (list_made k wanted).subs).places having
       (named-list Sound sound k.list (settle_known (list_columns k) wanted) (before_list k) good.list))
 
-  steady-clauses : (k : Clauses) (is_distinct : Bool) (w v : List Kind) → GoodClauses k → facts_of (clauses_query k is_distinct w) ≡ facts_of (clauses_query k is_distinct v)
+  steady-clauses : (k : ClausesMeant) (is_distinct : Bool) (w v : List Kind) → GoodClauses k → facts_of (clauses_query k is_distinct w) ≡ facts_of (clauses_query k is_distinct v)
   steady-clauses k is_distinct w v good =
       facts-core k.input.query k.where_meant k.groups k.having_meant (list_made k w) is_distinct
       ∙ ap (core_facts (facts_of k.input.query) k.where_meant k.having_meant)
@@ -126,7 +126,7 @@ module _ (Sound : Type 0) where
 
   -- ---- the whole
 
-  pub good-core_meant : (words clauses : List Break) (k : Clauses) (is_distinct : Bool) → GoodClauses k
+  pub good-core_meant : (words clauses : List Break) (k : ClausesMeant) (is_distinct : Bool) → GoodClauses k
       → (clauses ≡ [] → items_breaks k.list ≡ []) → GoodQuery Sound (core_meant words clauses k is_distinct)
   good-core_meant words clauses k is_distinct good listed = record {
     known = λ sound whole.
@@ -160,7 +160,7 @@ module _ (Sound : Type 0) where
       let grouped : Scope = group_scope own groups having items in
       let here : Surroundings = in_clause own outer false in
       let grouped_here : Surroundings = in_clause grouped outer true in
-      let k : Clauses = core_clauses here grouped_here grouped has_from input condition having items in
+      let k : ClausesMeant = core_clauses here grouped_here grouped has_from input condition having items in
       let front = (optional_breaks condition k.where_meant ++ flat_map (group_break own) groups) ++ optional_breaks having k.having_meant in
       let good : GoodClauses k = record {
         input = from;

@@ -20,7 +20,7 @@ use Rattle.perm_catalog.specs.Columns.{column_kinds}
 use Rattle.perm_catalog.specs.Contents.{Contents}
 use Rattle.perm_catalog.specs.Sound.{IsSound, IsSoundView}
 use Rattle.perm_catalog.specs.declared.column.Column.{Column}
-use Rattle.perm_catalog.specs.declared.entries.Mark.{Mark}
+use Rattle.perm_catalog.specs.declared.entries.StoredQuery.{StoredQuery}
 use Rattle.perm_catalog.specs.declared.entries.TableEntry.{TableEntry}
 use Rattle.perm_catalog.specs.declared.entries.ViewEntry.{ViewEntry}
 use Rattle.sql_tree.specs.Regular.{is_lateral}
@@ -67,7 +67,7 @@ named-plain : (query : Query) (names : List (List ℕ)) (places : Option (List �
 named-plain query names None h = h
 named-plain query names (Some places) h = named-external query names places
 
-named-table_plain : (id : ℕ) (name : List ℕ) (columns : List Column) (stored : Option Mark) → AreNamed (shape (table_with id name columns stored))
+named-table_plain : (id : ℕ) (name : List ℕ) (columns : List Column) (stored : Option StoredQuery) → AreNamed (shape (table_with id name columns stored))
 named-table_plain id name columns None =
     named-all (Table id (column_kinds columns)) name (names_of (table_columns columns)) columns
     (length-map (table_columns columns) _ ∙ length-map columns _)

@@ -11,7 +11,7 @@ use Rattle.bag_algebra.specs.declared.query.Query.{Query}
 use Rattle.bag_algebra.specs.declared.query.Query.TheVariants.{Table, Base}
 use Rattle.perm_catalog.specs.Columns.{column_kinds}
 use Rattle.perm_catalog.specs.declared.column.Column.{Column}
-use Rattle.perm_catalog.specs.declared.entries.Mark.{Mark}
+use Rattle.perm_catalog.specs.declared.entries.StoredQuery.{StoredQuery}
 use Rattle.sql_tree.specs.declared.query.SetWord.{SetWord}
 use Rattle.sql_tree.specs.declared.query.SetWord.TheVariants as word
 use Rattle.sql_tree.specs.declared.source.ScopeMark.{ScopeMark}
@@ -59,12 +59,12 @@ kinds-plain query names None = refl
 kinds-plain query names (Some places) = kinds_of-Base query places (External (names_at names places))
 
 -- a table with the provenance that it stores, if any
-abbrev pub table_with : ℕ → List ℕ → List Column → Option Mark → Query
+abbrev pub table_with : ℕ → List ℕ → List Column → Option StoredQuery → Query
 table_with id name columns stored = option_map_or
-    (λ (m : Mark). external (Table id (column_kinds columns)) (names_of (table_columns columns)) m.places) stored
+    (λ (m : StoredQuery). external (Table id (column_kinds columns)) (names_of (table_columns columns)) m.places) stored
     (Base (Table id (column_kinds columns)) (all_places columns) (Relation name (names_of (table_columns columns))))
 
-pub kinds-table : (id : ℕ) (name : List ℕ) (columns : List Column) (stored : Option Mark) → kinds_of (table_with id name columns stored) ≡ column_kinds columns
+pub kinds-table : (id : ℕ) (name : List ℕ) (columns : List Column) (stored : Option StoredQuery) → kinds_of (table_with id name columns stored) ≡ column_kinds columns
 kinds-table id name columns None =
     kinds_of-Base (Table id (column_kinds columns)) (all_places columns) (Relation name (names_of (table_columns columns)))
 kinds-table id name columns (Some m) =

@@ -14,7 +14,7 @@ use Rattle.sql_tree.specs.declared.query.OrderTree.{OrderTree}
 use Rattle.sql_tree.specs.declared.query.SetWord.{SetWord}
 use Rattle.sql_tree.specs.declared.query.SetWord.TheVariants as word
 use Rattle.contribution.proofs.WhereGood.{Every}
-use Rattle.name_meaning.specs.Cores.{BodyPart, settle_known, optional_built, group_scope, filtered, aggregated_input, distinct_if, Clauses, list_columns, before_list, core_unlooked, core_clauses, core_over, word_breaks, core_seen}
+use Rattle.name_meaning.specs.Cores.{BodyPart, settle_known, optional_built, group_scope, filtered, aggregated_input, distinct_if, ClausesMeant, list_columns, before_list, core_unlooked, core_clauses, core_over, word_breaks, core_seen}
 use Rattle.name_meaning.specs.Froms.{FromMeant, in_clause, optional_meant, optional_inside}
 use Rattle.name_meaning.specs.Items.{Made, SelectPart, made_items, items_inside}
 use Rattle.name_meaning.specs.Meanings.{Surroundings, Part, Around, Built, QueryMeant, is_whole}
@@ -71,7 +71,7 @@ module _ (P : List (List ℕ) → ℕ → List Kind → Type 0) (g : Grows P) wh
       let grouped : Scope = group_scope own groups having items in
       let here : Surroundings = in_clause own outer false in
       let grouped_here : Surroundings = in_clause grouped outer true in
-      let k : Clauses = core_clauses here grouped_here grouped has_from input condition having items in
+      let k : ClausesMeant = core_clauses here grouped_here grouped has_from input condition having items in
       let list : Made = made_items k.list (settle_known (list_columns k) w) (before_list k) in
       let aggregates : List Aggr = (optional_built k.having_meant).aggregates ++ list.aggregates in
       let kept : Query = filtered input.query k.where_meant in

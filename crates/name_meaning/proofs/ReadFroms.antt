@@ -12,7 +12,7 @@ use Rattle.bag_algebra.specs.declared.query.Query.TheVariants.{Table, Base}
 use Rattle.perm_catalog.specs.Changes.{table_named, view_named}
 use Rattle.perm_catalog.specs.Columns.{column_kinds}
 use Rattle.perm_catalog.specs.Contents.{Contents}
-use Rattle.perm_catalog.specs.declared.entries.Mark.{Mark}
+use Rattle.perm_catalog.specs.declared.entries.StoredQuery.{StoredQuery}
 use Rattle.perm_catalog.specs.declared.entries.TableEntry.{TableEntry}
 use Rattle.perm_catalog.specs.declared.entries.ViewEntry.{ViewEntry}
 use Rattle.sql_tree.specs.Regular.{is_lateral}
@@ -47,8 +47,8 @@ module _ (P : List (List ℕ) → ℕ → List Kind → Type 0) (g : Grows P) wh
   reads-external inside query names None h = h
   reads-external inside query names (Some places) h = reads-Base (P inside) query places (External (names_at names places)) h
 
-  reads-source : (inside : List (List ℕ)) (own : Query) (name : List ℕ) (names : List (List ℕ)) (places : List ℕ) (stored : Option Mark) → EachTable (P inside) own
-      → EachTable (P inside) (option_map_or (λ (m : Mark). external own names m.places) stored (Base own places (Relation name names)))
+  reads-source : (inside : List (List ℕ)) (own : Query) (name : List ℕ) (names : List (List ℕ)) (places : List ℕ) (stored : Option StoredQuery) → EachTable (P inside) own
+      → EachTable (P inside) (option_map_or (λ (m : StoredQuery). external own names m.places) stored (Base own places (Relation name names)))
   reads-source inside own name names places None h = reads-Base (P inside) own places (Relation name names) h
   reads-source inside own name names places (Some m) h = reads-Base (P inside) own m.places (External (names_at names m.places)) h
 

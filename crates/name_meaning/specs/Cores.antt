@@ -87,29 +87,29 @@ core_query input where_meant groups having_meant list is_distinct =
 -- ---- the whole
 
 -- what is looked at where FROM is whole
-pub record Clauses : Type 0 where
+pub record ClausesMeant : Type 0 where
   pub input : FromMeant
   pub where_meant : Option Meant
   pub groups : Option (List ℕ)
   pub having_meant : Option Meant
   pub list : List SelectMeant
 
-abbrev pub list_columns : Clauses → Option (List OutColumn)
+abbrev pub list_columns : ClausesMeant → Option (List OutColumn)
 list_columns k = option_map (named_from 1) (all_known k.list)
 
 -- in the list, aggregates stand behind those of HAVING
-abbrev pub before_list : Clauses → Before
+abbrev pub before_list : ClausesMeant → Before
 before_list k = behind nothing_before [] (optional_built k.having_meant).aggregates
 
-abbrev pub clauses_query : Clauses → Bool → List Kind → Query
+abbrev pub clauses_query : ClausesMeant → Bool → List Kind → Query
 clauses_query k is_distinct wanted = core_query k.input.query k.where_meant k.groups k.having_meant
     (made_items k.list (settle_known (list_columns k) wanted) (before_list k)) is_distinct
 
-abbrev pub clauses_inside : Clauses → Inside
+abbrev pub clauses_inside : ClausesMeant → Inside
 clauses_inside k = both_inside (items_inside k.list)
     (both_inside k.input.inside (both_inside (optional_inside k.where_meant) (optional_inside k.having_meant)))
 
-abbrev pub core_meant : List Break → List Break → Clauses → Bool → QueryMeant
+abbrev pub core_meant : List Break → List Break → ClausesMeant → Bool → QueryMeant
 core_meant word_breaks clause_breaks k is_distinct = record {
   breaks = word_breaks ++ clause_breaks;
   columns = list_columns k;
@@ -130,7 +130,7 @@ core_unlooked word_breaks input = record {
   make = λ wanted. Single;
 }
 
-abbrev pub core_clauses : Surroundings → Surroundings → Scope → Bool → FromMeant → Option Part → Option Part → List SelectPart → Clauses
+abbrev pub core_clauses : Surroundings → Surroundings → Scope → Bool → FromMeant → Option Part → Option Part → List SelectPart → ClausesMeant
 core_clauses here grouped_here grouped has_from input condition having items = record {
   input = input;
   where_meant = optional_meant here condition;
@@ -139,7 +139,7 @@ core_clauses here grouped_here grouped has_from input condition having items = r
   list = map (λ (item : SelectPart). item.means has_from grouped grouped_here) items;
 }
 
-abbrev pub clause_breaks : Scope → Option Part → List ColRef → Option Part → Clauses → List Break
+abbrev pub clause_breaks : Scope → Option Part → List ColRef → Option Part → ClausesMeant → List Break
 clause_breaks scope condition groups having k = optional_breaks condition k.where_meant ++ flat_map (group_break scope) groups
     ++ optional_breaks having k.having_meant ++ items_breaks k.list
 
@@ -153,7 +153,7 @@ abbrev pub core_over : List Scope → List Break → FromMeant → Bool → Bool
 core_over outer word_breaks input has_from is_distinct items condition groups having scope_items =
     let own : Scope = scope_of scope_items in
     let grouped : Scope = group_scope own groups having items in
-    let k : Clauses = core_clauses (in_clause own outer false) (in_clause grouped outer true) grouped has_from input condition having items in
+    let k : ClausesMeant = core_clauses (in_clause own outer false) (in_clause grouped outer true) grouped has_from input condition having items in
     core_meant word_breaks (clause_breaks own condition groups having k) k is_distinct
 
 -- PROVENANCE stands wrongly where it isn't the word of a whole query

@@ -14,7 +14,7 @@ use Rattle.perm_catalog.specs.Changes.{table_named, view_named}
 use Rattle.perm_catalog.specs.Columns.{column_kinds}
 use Rattle.perm_catalog.specs.Contents.{Contents}
 use Rattle.perm_catalog.specs.declared.column.Column.{Column}
-use Rattle.perm_catalog.specs.declared.entries.Mark.{Mark}
+use Rattle.perm_catalog.specs.declared.entries.StoredQuery.{StoredQuery}
 use Rattle.perm_catalog.specs.declared.entries.TableEntry.{TableEntry}
 use Rattle.perm_catalog.specs.declared.entries.ViewEntry.{ViewEntry}
 use Rattle.bag_algebra.specs.Kinds.{kinds_of}
@@ -73,7 +73,7 @@ external query names places = Base query places (External (names_at names places
 -- a table is a source of all its columns, and one that stores provenance a source of its provenance columns
 abbrev pub table_plain : List ℕ → TableEntry → Query
 table_plain name table = option_map_or
-    (λ (stored : Mark). external (Table table.id (column_kinds table.columns)) (names_of (table_columns table.columns)) stored.places) table.stored
+    (λ (stored : StoredQuery). external (Table table.id (column_kinds table.columns)) (names_of (table_columns table.columns)) stored.places) table.stored
     (Base (Table table.id (column_kinds table.columns)) (all_places table.columns) (Relation name (names_of (table_columns table.columns))))
 
 abbrev pub read_table : List ℕ → TableEntry → Read

@@ -8,7 +8,7 @@ use Rattle.bag_algebra.specs.declared.query.Query.TheVariants.{Project}
 use Rattle.bag_algebra.specs.declared.query.Sublink.{Sublink}
 use Rattle.perm_values.specs.declared.kind.Kind.{Kind}
 use Rattle.sql_tree.specs.declared.name.ColRef.{ColRef}
-use Rattle.name_meaning.specs.Cores.{Clauses, aggregated_input, before_list, clauses_query, core_clauses, core_over, core_seen, core_unlooked, filtered, group_break, group_scope, list_columns, optional_built, settle_known, word_breaks}
+use Rattle.name_meaning.specs.Cores.{ClausesMeant, aggregated_input, before_list, clauses_query, core_clauses, core_over, core_seen, core_unlooked, filtered, group_break, group_scope, list_columns, optional_built, settle_known, word_breaks}
 use Rattle.name_meaning.specs.Froms.{FromMeant, in_clause, optional_breaks, optional_meant}
 use Rattle.name_meaning.specs.Items.{Made, SelectPart, items_breaks, made_items, named_from}
 use Rattle.name_meaning.specs.Meanings.{Around, Meant, Part, QueryMeant, is_whole}
@@ -36,11 +36,11 @@ facts-filtered input None = sym (both_facts-none (facts_of input))
 facts-filtered input (Some m) = facts-Filter input (optional_built (Some m)).expr (optional_built (Some m)).subs
 
 -- FROM's, then those of WHERE, of HAVING and of the list
-abbrev clauses_facts : Clauses → List Sublink → Facts
+abbrev clauses_facts : ClausesMeant → List Sublink → Facts
 clauses_facts k subs =
     both_facts (both_facts (both_facts (facts_of k.input.query) (condition_facts k.where_meant)) (condition_facts k.having_meant)) (sub_facts subs)
 
-facts-clauses : (k : Clauses) (is_distinct : Bool) (wanted : List Kind)
+facts-clauses : (k : ClausesMeant) (is_distinct : Bool) (wanted : List Kind)
     → facts_of (clauses_query k is_distinct wanted) ≡ clauses_facts k (made_items k.list (settle_known (list_columns k) wanted) (before_list k)).subs
 facts-clauses k is_distinct wanted =
     let list : Made = made_items k.list (settle_known (list_columns k) wanted) (before_list k) in
@@ -52,7 +52,7 @@ facts-clauses k is_distinct wanted =
     (facts-filtered rows k.having_meant ∙ ap (λ (facts : Facts). both_facts facts (condition_facts k.having_meant))
     (facts-aggregated (filtered k.input.query k.where_meant) k.groups aggregates ∙ facts-filtered k.input.query k.where_meant))
 
-adds-clauses : (k : Clauses) (is_distinct : Bool) (wanted : List Kind) (before from where_ having new : Facts)
+adds-clauses : (k : ClausesMeant) (is_distinct : Bool) (wanted : List Kind) (before from where_ having new : Facts)
     → from ≡ both_facts before (facts_of k.input.query)
     → where_ ≡ both_facts from (condition_facts k.where_meant)
     → having ≡ both_facts where_ (condition_facts k.having_meant)
@@ -147,7 +147,7 @@ pub core-whole : (around : Around) (input : FromMeant) (has_from is_distinct : B
 core-whole around input has_from is_distinct parts condition groups having items before from behind_where behind_having new columns first second none third list =
     let own : Scope = scope_of items in
     let grouped : Scope = group_scope own groups having parts in
-    let k : Clauses = core_clauses (in_clause own around.outer false) (in_clause grouped around.outer true) grouped has_from input condition having parts in
+    let k : ClausesMeant = core_clauses (in_clause own around.outer false) (in_clause grouped around.outer true) grouped has_from input condition having parts in
     record {
       whole = both-none (optional_breaks condition k.where_meant ++ flat_map (group_break own) groups ++ optional_breaks having k.having_meant) (items_breaks k.list)
           (all-none (optional_breaks condition k.where_meant) (flat_map (group_break own) groups) (optional_breaks having k.having_meant) second.whole none third.whole) list.whole;

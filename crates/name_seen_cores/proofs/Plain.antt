@@ -8,7 +8,7 @@ use Rattle.bag_algebra.specs.declared.query.Label.TheVariants.{Relation, Externa
 use Rattle.bag_algebra.specs.declared.query.Query.{Query}
 use Rattle.bag_algebra.specs.declared.query.Query.TheVariants.{Base, Table}
 use Rattle.perm_catalog.specs.Columns.{column_kinds}
-use Rattle.perm_catalog.specs.declared.entries.Mark.{Mark}
+use Rattle.perm_catalog.specs.declared.entries.StoredQuery.{StoredQuery}
 use Rattle.perm_catalog.specs.declared.entries.TableEntry.{TableEntry}
 use Rattle.perm_catalog.specs.declared.entries.ViewEntry.{ViewEntry}
 use Rattle.perm_values.specs.declared.kind.Kind.{Kind}
@@ -41,18 +41,18 @@ plain-is query names kinds own (Some places) same gathered = facts-based query p
 abbrev whole-table : List ℕ → TableEntry → List ℕ → Query
 whole-table name table places = Base (Table table.id (column_kinds table.columns)) places (Relation name (known_names table.columns))
 
-abbrev plain-at : List ℕ → TableEntry → Option Mark → Query
+abbrev plain-at : List ℕ → TableEntry → Option StoredQuery → Query
 plain-at name table mark = option_map_or
-    (λ (stored : Mark). external (Table table.id (column_kinds table.columns)) (known_names table.columns) stored.places) mark
+    (λ (stored : StoredQuery). external (Table table.id (column_kinds table.columns)) (known_names table.columns) stored.places) mark
     (whole-table name table (all_places table.columns))
 
-pub table-source : (name : List ℕ) (table : TableEntry) (names : List (List ℕ)) (kinds : List Kind) (places : List ℕ) (stored : Mark)
+pub table-source : (name : List ℕ) (table : TableEntry) (names : List (List ℕ)) (kinds : List Kind) (places : List ℕ) (stored : StoredQuery)
     → names ≡ known_names table.columns → kinds ≡ column_kinds table.columns → table.stored ≡ Some stored → places ≡ stored.places
     → external_facts names kinds places ≡ facts_of (table_plain name table)
 table-source name table names kinds places stored named sorts marked at =
     (λ i. external_facts (named i) (sorts i) (at i))
     ∙ sym (facts-based (Table table.id (column_kinds table.columns)) stored.places (External (names_at (known_names table.columns) stored.places)) (column_kinds table.columns) refl)
-    ∙ ap (λ (mark : Option Mark). facts_of (plain-at name table mark)) (sym marked)
+    ∙ ap (λ (mark : Option StoredQuery). facts_of (plain-at name table mark)) (sym marked)
 
 pub table-whole : (name : List ℕ) (table : TableEntry) (names : List (List ℕ)) (kinds : List Kind)
     → names ≡ known_names table.columns → kinds ≡ column_kinds table.columns → table.stored ≡ None → relation_facts name names kinds ≡ facts_of (table_plain name table)
@@ -60,7 +60,7 @@ table-whole name table names kinds named sorts unmarked =
     (λ i. relation_facts name (named i) (sorts i))
     ∙ sym (facts-based (Table table.id (column_kinds table.columns)) (all_places (known_names table.columns)) (Relation name (known_names table.columns)) (column_kinds table.columns) refl)
     ∙ ap (λ (count : ℕ). facts_of (whole-table name table (range_with_len 0 count))) (length-known table.columns)
-    ∙ ap (λ (mark : Option Mark). facts_of (plain-at name table mark)) (sym unmarked)
+    ∙ ap (λ (mark : Option StoredQuery). facts_of (plain-at name table mark)) (sym unmarked)
 
 -- ---- views
 

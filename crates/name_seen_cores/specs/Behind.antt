@@ -17,7 +17,7 @@ use Rattle.name_meaning.specs.Scopes.{ScopeItem}
 use Rattle.name_meaning.specs.Trees.{from_of, item_of, part_of}
 use Rattle.name_meaning.specs.declared.scope.Scope.{Scope}
 use Rattle.name_meaning.specs.laws.Facts.{both_facts, no_facts, sub_facts}
-use Rattle.name_seen_parts.specs.Seen.{first_or}
+use Rattle.name_seen_parts.specs.Seen.{FirstOr, first_or}
 use Rattle.name_seen_parts.specs.declared.refusal.Refusal.{Refusal}
 use Rattle.name_seen_parts.specs.declared.refusal.Refusal.TheVariants.{Break as Broken, NoMemory}
 use Rattle.name_seen_parts.specs.Columns.{columns_of}
@@ -37,9 +37,7 @@ pub record ConditionWhole (part : Option Part) (m : Option Meant) (old new : Gat
   pub adds : facts_in new ≡ both_facts (facts_in old) (sub_facts (optional_built m).subs)
 
 abbrev pub ConditionSeen : Option Part → Option Meant → Gathered → Gathered → Result Unit Refusal → Type 0
-ConditionSeen part m old new (Ok done) = ConditionWhole part m old new
-ConditionSeen part m old new (Err (Broken first)) = first_or (optional_breaks part m) (tt {0}) ≡ Err first
-ConditionSeen part m old new (Err NoMemory) = Unit {0}
+ConditionSeen part m old new result = FirstOr (optional_breaks part m) (λ done. ConditionWhole part m old new) result
 
 -- the scope behind GROUP BY
 pub record GroupsWhole (own : Scope) (groups : List ColRef) (having : Option Part) (items : List SelectPart) (scope : Scope) : Type 0 where
@@ -47,9 +45,7 @@ pub record GroupsWhole (own : Scope) (groups : List ColRef) (having : Option Par
   pub scope_is : scope ≡ group_scope own groups having items
 
 abbrev pub GroupsSeen : Scope → List ColRef → Option Part → List SelectPart → Result Scope Refusal → Type 0
-GroupsSeen own groups having items (Ok scope) = GroupsWhole own groups having items scope
-GroupsSeen own groups having items (Err (Broken first)) = first_or (flat_map (group_break own) groups) (tt {0}) ≡ Err first
-GroupsSeen own groups having items (Err NoMemory) = Unit {0}
+GroupsSeen own groups having items result = FirstOr (flat_map (group_break own) groups) (GroupsWhole own groups having items) result
 
 abbrev pub is_aggregating : SelectPart → Bool
 is_aggregating item = item.aggregating

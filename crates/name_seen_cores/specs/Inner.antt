@@ -5,9 +5,9 @@ use Rattle.perm_values.specs.declared.kind.Kind.TheVariants as kind
 use Rattle.name_meaning.specs.Meanings.{QueryMeant, broken, broken_if, unites}
 use Rattle.name_meaning.specs.Sublinks.{is_one_column, first_kind}
 use Rattle.name_meaning.specs.laws.Facts.{facts_of, both_facts}
-use Rattle.name_seen_parts.specs.Seen.{first_or}
+use Rattle.name_seen_parts.specs.Seen.{FirstOr, first_or}
 use Rattle.name_seen_parts.specs.declared.refusal.Refusal.{Refusal}
-use Rattle.name_seen_parts.specs.declared.refusal.Refusal.TheVariants.{Break as Broken, NoMemory}
+use Rattle.name_seen_parts.specs.declared.refusal.Refusal.TheVariants.{Break as Broken}
 use Rattle.name_seen_cores.specs.from.Added.{facts_in}
 use Rattle.name_seen_cores.specs.Expressed.{answered}
 use Rattle.name_seen_cores.specs.declared.from.facts.Facts.{Facts as Gathered}
@@ -27,9 +27,7 @@ pub record InnerIs (q : QueryMeant) (old new : Gathered) (inner : InnerColumns) 
   pub adds : (wanted : List Kind) → facts_in new ≡ both_facts (facts_in old) (facts_of (q.make wanted))
 
 abbrev pub InnerSeen : QueryMeant → Gathered → Gathered → Result InnerColumns Refusal → Type 0
-InnerSeen q old new (Ok inner) = InnerIs q old new inner
-InnerSeen q old new (Err (Broken first)) = first_or q.breaks (tt {0}) ≡ Err first
-InnerSeen q old new (Err NoMemory) = Unit {0}
+InnerSeen q old new result = FirstOr q.breaks (InnerIs q old new) result
 
 -- it is looked at where a sublink may stand
 abbrev pub InnerLooked : Bool → QueryMeant → ℕ → Gathered → Gathered → Result InnerColumns Refusal → Type 0

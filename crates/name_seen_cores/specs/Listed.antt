@@ -1,13 +1,12 @@
 -- What the code finds of the items of a SELECT list, one behind the other.
-use Rattle.std.specs.Prelude.{◌≡◌, suc, Bool, List, [], ◌∷◌, ◌++◌, length, Some, Result, Ok, Err}
+use Rattle.std.specs.Prelude.{◌≡◌, suc, Bool, List, [], ◌∷◌, ◌++◌, length, Some, Result}
 use Rattle.perm_values.specs.declared.kind.Kind.{Kind}
 use Rattle.name_meaning.specs.Items.{SelectMeant, SelectPart, Titled, all_known, items_breaks, made_items, named_from}
 use Rattle.name_meaning.specs.Meanings.{Before, Surroundings}
 use Rattle.name_meaning.specs.declared.scope.Scope.{Scope}
 use Rattle.name_meaning.specs.laws.Facts.{both_facts, sub_facts}
-use Rattle.name_seen_parts.specs.Seen.{first_or}
+use Rattle.name_seen_parts.specs.Seen.{FirstOr}
 use Rattle.name_seen_parts.specs.declared.refusal.Refusal.{Refusal}
-use Rattle.name_seen_parts.specs.declared.refusal.Refusal.TheVariants.{Break as Broken, NoMemory}
 use Rattle.name_seen_parts.specs.Columns.{columns_of}
 use Rattle.name_seen_parts.specs.declared.clauses.column.ShownColumn.{ShownColumn}
 use Rattle.name_seen_cores.specs.from.Added.{facts_in}
@@ -22,9 +21,7 @@ pub record ItemWhole (m : SelectMeant) (columns wider : List ShownColumn) (old n
   pub adds : (wanted : List Kind) (before : Before) → facts_in new ≡ both_facts (facts_in old) (sub_facts (m.make wanted before).subs)
 
 abbrev pub ItemSeen : SelectMeant → List ShownColumn → List ShownColumn → Gathered → Gathered → Result Unit Refusal → Type 0
-ItemSeen m columns wider old new (Ok done) = ItemWhole m columns wider old new
-ItemSeen m columns wider old new (Err (Broken first)) = first_or m.breaks (tt {0}) ≡ Err first
-ItemSeen m columns wider old new (Err NoMemory) = Unit {0}
+ItemSeen m columns wider old new result = FirstOr m.breaks (λ done. ItemWhole m columns wider old new) result
 
 -- an item of the list where it stands
 abbrev pub seen_at : Bool → Scope → Surroundings → SelectPart → SelectMeant
@@ -39,6 +36,4 @@ pub record ListWhole (ms : List SelectMeant) (old new : Gathered) (columns : Lis
   pub adds : (wanted : List Kind) (before : Before) → facts_in new ≡ both_facts (facts_in old) (sub_facts (made_items ms wanted before).subs)
 
 abbrev pub ListSeen : List SelectMeant → Gathered → Gathered → Result (List ShownColumn) Refusal → Type 0
-ListSeen ms old new (Ok columns) = ListWhole ms old new columns
-ListSeen ms old new (Err (Broken first)) = first_or (items_breaks ms) (tt {0}) ≡ Err first
-ListSeen ms old new (Err NoMemory) = Unit {0}
+ListSeen ms old new result = FirstOr (items_breaks ms) (ListWhole ms old new) result

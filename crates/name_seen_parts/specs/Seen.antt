@@ -9,11 +9,20 @@ use Rattle.name_meaning.specs.declared.need.Gives.TheVariants.{Always, Common}
 use Rattle.name_meaning.specs.declared.need.Need.{Need}
 use Rattle.name_meaning.specs.declared.need.Need.TheVariants.{OfKind, Alike, Free}
 use Rattle.name_seen_parts.specs.declared.operands.Operands.{Operands}
+use Rattle.name_seen_parts.specs.declared.refusal.Refusal.{Refusal}
+use Rattle.name_seen_parts.specs.declared.refusal.Refusal.TheVariants.{Break as Broken, NoMemory}
 use Rattle.name_meaning.specs.declared.rule.Rule.TheVariants as rule
 
 abbrev pub first_or : {X : Type 0} → List Break → X → Result X Break
 first_or [] value = Ok value
 first_or (first ∷ more) value = Err first
+
+-- a call's result where something has these breaks: a value that is this, where there are none, or the first of them; want
+-- of memory says nothing
+abbrev pub FirstOr : {X : Type 0} → List Break → (X → Type 0) → Result X Refusal → Type 0
+FirstOr breaks is (Ok x) = is x
+FirstOr breaks is (Err (Broken first)) = first_or breaks (tt {0}) ≡ Err first
+FirstOr breaks is (Err NoMemory) = Unit {0}
 
 abbrev pub seen : Meant → Result (Option Kind) Break
 seen m = first_or m.breaks m.kind

@@ -17,9 +17,8 @@ use Rattle.name_meaning.specs.Scopes.{KnownColumn}
 use Rattle.name_meaning.specs.Statements.{answer_of, columns_of, condition_made, delete_breaks, has_boolean, impact_breaks, limit_breaks, name_breaks, query_limits, repeats, resolved_body, size_limit, stored_columns, table_limit, width_limit}
 use Rattle.name_meaning.specs.declared.answer.Break.{Break}
 use Rattle.name_meaning.specs.declared.answer.Resolved.{Resolved}
-use Rattle.name_seen_parts.specs.Seen.{first_or}
+use Rattle.name_seen_parts.specs.Seen.{FirstOr}
 use Rattle.name_seen_parts.specs.declared.refusal.Refusal.{Refusal}
-use Rattle.name_seen_parts.specs.declared.refusal.Refusal.TheVariants.{Break as Broken, NoMemory}
 use Rattle.name_statements.specs.declared.queries.Whole.{Whole}
 use Rattle.name_meaning.specs.declared.rule.Rule.TheVariants as rule
 
@@ -28,9 +27,7 @@ pub record IsResolved (breaks : List Break) (wanted made : Resolved) : Type 0 wh
   pub is : made ≡ wanted
 
 abbrev pub Resolves : List Break → Resolved → Result Resolved Refusal → Type 0
-Resolves breaks wanted (Ok made) = IsResolved breaks wanted made
-Resolves breaks wanted (Err (Broken first)) = first_or breaks (tt {0}) ≡ Err first
-Resolves breaks wanted (Err NoMemory) = Unit {0}
+Resolves breaks wanted result = FirstOr breaks (IsResolved breaks wanted) result
 
 -- the breaks of what a statement asks for
 abbrev pub body_breaks : Contents → StatementBody → List Break
@@ -59,9 +56,7 @@ pub record IsWhole (at : ℕ) (m : QueryMeant) (whole : Whole) : Type 0 where
   pub names : whole.names ≡ m.inside.names
 
 abbrev pub WholeSeen : ℕ → QueryMeant → Result Whole Refusal → Type 0
-WholeSeen at m (Ok whole) = IsWhole at m whole
-WholeSeen at m (Err (Broken first)) = first_or (query_limits at m) (tt {0}) ≡ Err first
-WholeSeen at m (Err NoMemory) = Unit {0}
+WholeSeen at m result = FirstOr (query_limits at m) (IsWhole at m) result
 
 -- ---- what stands inside a query that breaks nothing, none of it too wide
 
@@ -70,9 +65,7 @@ pub record IsInside (m : QueryMeant) (found : Gathered) : Type 0 where
   pub narrow : width_limit found.queries ≡ []
 
 abbrev pub InsideSeen : ℕ → QueryMeant → Result Gathered Refusal → Type 0
-InsideSeen at m (Ok found) = IsInside m found
-InsideSeen at m (Err (Broken first)) = first_or (query_limits at m) (tt {0}) ≡ Err first
-InsideSeen at m (Err NoMemory) = Unit {0}
+InsideSeen at m result = FirstOr (query_limits at m) (IsInside m) result
 
 -- ---- a query that breaks nothing, made, with what stands inside it
 
@@ -83,9 +76,7 @@ pub record IsWithin (at : ℕ) (m : QueryMeant) (made : Query) (found : Gathered
   pub small : size_limit at made ≡ []
 
 abbrev pub WithinSeen : ℕ → QueryMeant → Result (Query × Gathered) Refusal → Type 0
-WithinSeen at m (Ok both) = IsWithin at m both.0 both.1
-WithinSeen at m (Err (Broken first)) = first_or (query_limits at m) (tt {0}) ≡ Err first
-WithinSeen at m (Err NoMemory) = Unit {0}
+WithinSeen at m result = FirstOr (query_limits at m) (λ both. IsWithin at m both.0 both.1) result
 
 -- ---- the query of IMPACT
 
@@ -98,9 +89,7 @@ pub record IsMonotoneMade (m : QueryMeant) (made : Query) : Type 0 where
   pub monotone : is_monotone made ≡ true
 
 abbrev pub MonotoneSeen : ℕ → QueryMeant → Result Query Refusal → Type 0
-MonotoneSeen at m (Ok made) = IsMonotoneMade m made
-MonotoneSeen at m (Err (Broken first)) = first_or (asked_breaks at m) (tt {0}) ≡ Err first
-MonotoneSeen at m (Err NoMemory) = Unit {0}
+MonotoneSeen at m result = FirstOr (asked_breaks at m) (IsMonotoneMade m) result
 
 pub record IsAsked (at : ℕ) (m : QueryMeant) (whole : Whole) : Type 0 where
   pub none : m.breaks ≡ []
@@ -108,17 +97,13 @@ pub record IsAsked (at : ℕ) (m : QueryMeant) (whole : Whole) : Type 0 where
   pub is : IsWhole at m whole
 
 abbrev pub AskedSeen : ℕ → QueryMeant → Result Whole Refusal → Type 0
-AskedSeen at m (Ok whole) = IsAsked at m whole
-AskedSeen at m (Err (Broken first)) = first_or (asked_breaks at m) (tt {0}) ≡ Err first
-AskedSeen at m (Err NoMemory) = Unit {0}
+AskedSeen at m result = FirstOr (asked_breaks at m) (IsAsked at m) result
 
 -- ---- the condition of DELETE and of IMPACT
 
-pub record IsCondition (c : Contents) (name : Name) (condition : Option ExprTree) (table : TableEntry) (made : Option Expr) : Type 0 where
+pub record IsConditionMade (c : Contents) (name : Name) (condition : Option ExprTree) (table : TableEntry) (made : Option Expr) : Type 0 where
   pub whole : delete_breaks c name condition table ≡ []
   pub is : made ≡ option_map (λ (tree : ExprTree). condition_made c name tree table) condition
 
 abbrev pub ConditionSeen : Contents → Name → Option ExprTree → TableEntry → Result (Option Expr) Refusal → Type 0
-ConditionSeen c name condition table (Ok made) = IsCondition c name condition table made
-ConditionSeen c name condition table (Err (Broken first)) = first_or (delete_breaks c name condition table) (tt {0}) ≡ Err first
-ConditionSeen c name condition table (Err NoMemory) = Unit {0}
+ConditionSeen c name condition table result = FirstOr (delete_breaks c name condition table) (IsConditionMade c name condition table) result

@@ -11,7 +11,7 @@ use Rattle.bag_algebra.specs.Bags.{Bag}
 use Rattle.bag_algebra.specs.TableRows.{rows_in}
 use Rattle.perm_catalog.specs.Contents.{Contents}
 use Rattle.perm_catalog.specs.declared.column.Column.{Column}
-use Rattle.perm_catalog.specs.declared.entries.Mark.{Mark}
+use Rattle.perm_catalog.specs.declared.entries.StoredQuery.{StoredQuery}
 use Rattle.perm_catalog.specs.declared.entries.TableEntry.{TableEntry}
 use Rattle.perm_catalog.specs.declared.entries.ViewEntry.{ViewEntry}
 
@@ -38,7 +38,7 @@ abbrev pub with_entry : Contents → List ℕ → TableEntry → Bag → Content
 with_entry c name entry rows = record c { tables = c.tables ++ (name, entry) ∷ []; rows = map.insert c.rows entry.id rows }
 
 -- a table comes last, with the number drawn as its identity and version
-abbrev pub with_table : Contents → List ℕ → List Column → Bag → Option Mark → Contents
+abbrev pub with_table : Contents → List ℕ → List Column → Bag → Option StoredQuery → Contents
 with_table c name columns rows stored = record {
   tables = c.tables ++ (name, record { id = c.next; version = c.next; columns = columns; stored = stored }) ∷ [];
   views = c.views;

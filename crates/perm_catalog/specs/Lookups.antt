@@ -5,7 +5,7 @@ use Rattle.std.specs.List.{find, list_any}
 use Rattle.std.specs.Option.{option_map, option_and_then}
 use Rattle.perm_catalog.specs.Changes.{table_named}
 use Rattle.perm_catalog.specs.Contents.{Contents}
-use Rattle.perm_catalog.specs.declared.entries.Mark.{Mark}
+use Rattle.perm_catalog.specs.declared.entries.StoredQuery.{StoredQuery}
 use Rattle.perm_catalog.specs.declared.entries.TableEntry.{TableEntry}
 use Rattle.perm_catalog.specs.declared.entries.ViewEntry.{ViewEntry}
 
@@ -29,4 +29,4 @@ version_of_id c id = option_map (λ (e : List ℕ × TableEntry). e.1.version) (
 
 -- the places of the provenance columns that the table of this name stores
 abbrev pub declared_places : Contents → List ℕ → Option (List ℕ)
-declared_places c name = option_map (λ (stored : Mark). stored.places) (option_and_then (λ (entry : TableEntry). entry.stored) (table_named c name))
+declared_places c name = option_map (λ (stored : StoredQuery). stored.places) (option_and_then (λ (entry : TableEntry). entry.stored) (table_named c name))

@@ -14,7 +14,7 @@ use Rattle.perm_catalog.specs.Changes.{table_named, view_named}
 use Rattle.perm_catalog.specs.Columns.{AreTableColumns, column_kinds}
 use Rattle.perm_catalog.specs.Contents.{Contents}
 use Rattle.perm_catalog.specs.Lookups.{uses_name}
-use Rattle.perm_catalog.specs.Stored.{IsSoundMark}
+use Rattle.perm_catalog.specs.Stored.{IsSoundStored}
 use Rattle.bag_algebra.specs.TablesRead.{TableRead, tables_read}
 use Rattle.perm_catalog.specs.declared.column.Column.{Column}
 use Rattle.perm_catalog.specs.declared.entries.TableEntry.{TableEntry}
@@ -28,7 +28,7 @@ pub record IsSoundTable (c : Contents) (table : TableEntry) : Type 0 where
   pub rows : Bag
   pub held : map.get c.rows table.id ≡ Some rows
   pub fitting : bag_fits rows (column_kinds table.columns) ≡ true
-  pub stored : IfSome table.stored (IsSoundMark c table.columns rows)
+  pub stored : IfSome table.stored (IsSoundStored c table.columns rows)
 
 -- the catalog holds the table that is read, with columns of these kinds, and the view names it
 pub record IsHeldRead (c : Contents) (view : ViewEntry) (read : TableRead) : Type 0 where

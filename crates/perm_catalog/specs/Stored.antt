@@ -19,19 +19,19 @@ use Rattle.perm_catalog.specs.Columns.{column_kinds}
 use Rattle.perm_catalog.specs.Contents.{Contents}
 use Rattle.perm_catalog.specs.Lookups.{entry_of_id}
 use Rattle.perm_catalog.specs.declared.column.Column.{Column}
-use Rattle.perm_catalog.specs.declared.entries.Kept.{Kept}
-use Rattle.perm_catalog.specs.declared.entries.Mark.{Mark}
+use Rattle.perm_catalog.specs.declared.entries.SourceVersion.{SourceVersion}
+use Rattle.perm_catalog.specs.declared.entries.StoredQuery.{StoredQuery}
 use Rattle.perm_catalog.specs.declared.entries.TableEntry.{TableEntry}
 
 -- a table of the kept identity is there, with the kept version
-abbrev pub is_unchanged : Contents → Kept → Bool
+abbrev pub is_unchanged : Contents → SourceVersion → Bool
 is_unchanged c kept = option_map_or (λ (e : List ℕ × TableEntry). nat_eq e.1.version kept.version) (entry_of_id c kept.id) false
 
 -- the first of the kept tables of which that isn't so
-abbrev pub first_changed : Contents → Mark → Option Kept
-first_changed c mark = find (λ (kept : Kept). not (is_unchanged c kept)) mark.kept
+abbrev pub first_changed : Contents → StoredQuery → Option SourceVersion
+first_changed c mark = find (λ (kept : SourceVersion). not (is_unchanged c kept)) mark.kept
 
-abbrev pub IsFresh : Contents → Mark → Type 0
+abbrev pub IsFresh : Contents → StoredQuery → Type 0
 IsFresh c mark = first_changed c mark ≡ None
 
 -- ---- what is kept of the tables that a query reads
@@ -42,39 +42,39 @@ each_once [] = []
 each_once (read ∷ reads) = read ∷ filter (λ (other : TableRead). not (nat_eq other.id read.id)) (each_once reads)
 
 -- the name, the identity and the version of a table that is read
-abbrev pub kept_read : Contents → TableRead → List Kept
+abbrev pub kept_read : Contents → TableRead → List SourceVersion
 kept_read c read = option_map_or
     (λ (e : List ℕ × TableEntry). record { table = e.0; id = e.1.id; version = e.1.version } ∷ []) (entry_of_id c read.id) []
 
 -- in the order in which the query reads them
-abbrev pub kept_of : Contents → Query → List Kept
+abbrev pub kept_of : Contents → Query → List SourceVersion
 kept_of c query = flat_map (kept_read c) (each_once (tables_read query))
 
 -- what a table remembers that is made of the query now
-abbrev pub mark_of : Contents → Query → List ℕ → Mark
+abbrev pub mark_of : Contents → Query → List ℕ → StoredQuery
 mark_of c query places = record { places = places; query = query; kept = kept_of c query }
 
 -- ---- what a table remembers is sound
 
 -- a table of this identity is among the kept ones
-pub record IsKept (kept : List Kept) (id : ℕ) : Type 0 where
-  pub table : Kept
+pub record IsKept (kept : List SourceVersion) (id : ℕ) : Type 0 where
+  pub table : SourceVersion
   pub there : Contains kept table
   pub same : table.id ≡ id
 
 -- and the catalog's table of this identity, where there is one, has columns of these kinds
-pub record IsKeptTable (c : Contents) (kept : List Kept) (id : ℕ) (kinds : List Kind) : Type 0 where
+pub record IsKeptTable (c : Contents) (kept : List SourceVersion) (id : ℕ) (kinds : List Kind) : Type 0 where
   pub is_kept : IsKept kept id
   pub kinds_are : (name : List ℕ) (table : TableEntry) → table_named c name ≡ Some table → table.id ≡ id → column_kinds table.columns ≡ kinds
 
 -- numbers that were drawn
-pub record IsDrawn (c : Contents) (kept : Kept) : Type 0 where
+pub record IsDrawn (c : Contents) (kept : SourceVersion) : Type 0 where
   pub id : kept.id < c.next
   pub version : kept.version < c.next
 
 -- the query is the PROVENANCE of its input, reads no outer row and has the table's kinds; the places lie in the table; what the query reads is
 -- kept; and while all of that is unchanged the rows are those of the query on the catalog's tables
-pub record IsSoundMark (c : Contents) (columns : List Column) (rows : Bag) (mark : Mark) : Type 0 where
+pub record IsSoundStored (c : Contents) (columns : List Column) (rows : Bag) (mark : StoredQuery) : Type 0 where
   pub input : Query
   pub asks : mark.query ≡ ProvOf input
   pub closed : WellFormed [] mark.query

@@ -6,7 +6,7 @@ ghost use Rattle.perm_catalog.specs.Changes.{table_named, view_named, is_free, w
 
 use crate::column::Column;
 use crate::drop_held::drop_held;
-use crate::entries::{Mark, TableEntry, ViewEntry};
+use crate::entries::{StoredQuery, TableEntry, ViewEntry};
 use crate::last::{add_last, room_for};
 use crate::renew::renew;
 use bag_algebra::Tables;
@@ -158,7 +158,7 @@ impl Catalog {
         name: &Chars,
         columns: List<Column>,
         rows: Rows,
-        stored: Option<Mark>,
+        stored: Option<StoredQuery>,
     ) -> Result<(), CatalogRefusal>
         requires { IsTrue (is_free self.old name.now) }
         ensures ok { OnOk result (self.new ≡ with_table self.old name.now columns rows stored) }

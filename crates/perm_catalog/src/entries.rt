@@ -7,7 +7,7 @@ use std::alloc::Global;
 
 /// A table that a stored provenance query read: its name, identity and version then.
 #[derive(Drop)]
-pub struct Kept {
+pub struct SourceVersion {
     pub table: Chars,
     pub id: u64,
     pub version: u64,
@@ -15,10 +15,10 @@ pub struct Kept {
 
 /// What a stored provenance table remembers: the places of its provenance columns, its query, and what that read.
 #[derive(Drop)]
-pub struct Mark {
+pub struct StoredQuery {
     pub places: List<usize>,
     pub query: Query,
-    pub kept: List<Kept>,
+    pub kept: List<SourceVersion>,
 }
 
 /// A table: its identity, which no other table has, the version of its rows, its columns, and what it remembers where
@@ -28,7 +28,7 @@ pub struct TableEntry {
     pub id: u64,
     pub version: u64,
     pub columns: List<Column>,
-    pub stored: Option<Mark>,
+    pub stored: Option<StoredQuery>,
 }
 
 /// A view as it was resolved: its answer, the places of its provenance columns where it has any, and the names of the
@@ -52,9 +52,9 @@ impl ViewEntry {
     }
 }
 
-impl Copyable for Kept {
-    fn copy(&self, alloc: Global) -> Result<Kept, NoMemory> {
-        Ok(Kept {
+impl Copyable for SourceVersion {
+    fn copy(&self, alloc: Global) -> Result<SourceVersion, NoMemory> {
+        Ok(SourceVersion {
             table: self.table.copy(alloc)?,
             id: self.id,
             version: self.version,
@@ -62,13 +62,13 @@ impl Copyable for Kept {
     }
 }
 
-impl Copyable for Mark {
-    fn copy(&self, alloc: Global) -> Result<Mark, NoMemory> {
+impl Copyable for StoredQuery {
+    fn copy(&self, alloc: Global) -> Result<StoredQuery, NoMemory> {
         let places = self.places.copy(alloc);
         let query = self.query.copy(alloc);
         let kept = self.kept.copy(alloc);
         let (places, query, kept) = three(places, query, kept)?;
-        Ok(Mark {
+        Ok(StoredQuery {
             places,
             query,
             kept,

@@ -11,5 +11,5 @@ mod sets;
 
 pub use catalog::{Catalog, CatalogRefusal};
 pub use column::Column;
-pub use entries::{Kept, Mark, TableEntry, ViewEntry};
+pub use entries::{SourceVersion, StoredQuery, TableEntry, ViewEntry};
 pub use sets::{NameList, Names};

@@ -22,7 +22,7 @@ use Rattle.bag_algebra.specs.declared.query.Aggr.{Aggr}
 use Rattle.bag_algebra.specs.declared.query.Query.{Query, Row_of-Sublink, more_of-Sublink, end_of-Sublink}
 use Rattle.bag_algebra.specs.declared.query.Query.TheVariants.{Table, Single}
 use Rattle.query_facts.specs.reached.reads.Columns.{column_at, expr_columns, parts_columns, steps_columns, arms_columns, option_columns, items_columns, aggregates_columns, one_nearer, behind, columns_of, subs_columns, Agree, is_nearest, is_among, AreNearest}
-use Rattle.query_facts.specs.declared.reached.reads.queries.Column.{Column}
+use Rattle.query_facts.specs.declared.reached.reads.queries.OuterColumn.{OuterColumn}
 
 -- what holds of all of two lists
 pub all-first : {X : Type 0} (P : X → Type 0) (xs ys : List X) → All P (xs ++ ys) → All P xs
@@ -34,13 +34,13 @@ right P [] ys h = h
 right P (x ∷ xs) ys h = right P xs ys (All-tail P x (xs ++ ys) h)
 
 -- the rows have the same value in the column
-abbrev Same_in : List Row → List Row → Column → Type 0
+abbrev Same_in : List Row → List Row → OuterColumn → Type 0
 Same_in rows others column = value_at (row_at rows column.level) column.place ≡ value_at (row_at others column.level) column.place
 
-first_of : (rows others : List Row) (xs ys : List Column) → Agree (xs ++ ys) rows others → Agree xs rows others
+first_of : (rows others : List Row) (xs ys : List OuterColumn) → Agree (xs ++ ys) rows others → Agree xs rows others
 first_of rows others xs ys h = all-first (Same_in rows others) xs ys h
 
-second_of : (rows others : List Row) (xs ys : List Column) → Agree (xs ++ ys) rows others → Agree ys rows others
+second_of : (rows others : List Row) (xs ys : List OuterColumn) → Agree (xs ++ ys) rows others → Agree ys rows others
 second_of rows others xs ys h = right (Same_in rows others) xs ys h
 
 -- behind a row of which nothing else differs
@@ -48,7 +48,7 @@ one_further : (u : Row) (env other : List Row) (level place : ℕ) → Agree (on
 one_further u env other zero place h = refl
 one_further u env other (suc level) place h = All-head (Same_in env other) (column_at level place) [] h
 
-further : (u : Row) (env other : List Row) (columns : List Column) → Agree (behind columns) env other → Agree columns (u ∷ env) (u ∷ other)
+further : (u : Row) (env other : List Row) (columns : List OuterColumn) → Agree (behind columns) env other → Agree columns (u ∷ env) (u ∷ other)
 further u env other [] h = All-nil (Same_in (u ∷ env) (u ∷ other))
 further u env other (column ∷ columns) h =
     let near = one_nearer column.level column.place in
@@ -135,10 +135,10 @@ module _ (env other : List Row) where
   items_on-alike items s r w e = λ i u. and_then ((e i).answers u) (λ answers. items-alike items u answers (w u) i)
 
   -- of what a node reads, its own row aside, the first part and the second
-  own_of : (own subs : List Column) → Agree (behind (own ++ subs)) env other → (u : Row) → Agree own (u ∷ env) (u ∷ other)
+  own_of : (own subs : List OuterColumn) → Agree (behind (own ++ subs)) env other → (u : Row) → Agree own (u ∷ env) (u ∷ other)
   own_of own subs w u = first_of (u ∷ env) (u ∷ other) own subs (further u env other (own ++ subs) w)
 
-  subs_of : (own subs : List Column) → Agree (behind (own ++ subs)) env other → (u : Row) → Agree subs (u ∷ env) (u ∷ other)
+  subs_of : (own subs : List OuterColumn) → Agree (behind (own ++ subs)) env other → (u : Row) → Agree subs (u ∷ env) (u ∷ other)
   subs_of own subs w u = second_of (u ∷ env) (u ∷ other) own subs (further u env other (own ++ subs) w)
 
 -- ---- queries
@@ -218,7 +218,7 @@ nearest_is : (place : ℕ) (rest : Bool) → (((zero == zero) && (place == place
 nearest_is place rest = grind (arith, nat_tests)
 
 -- rows with the same values at the nearest row's places agree on all columns
-nearest-agree : (u v : Row) (env : List Row) (columns : List Column) → ((place : ℕ) → is_nearest columns place ≡ true → value_at u place ≡ value_at v place) → Agree columns (u ∷ env) (v ∷ env)
+nearest-agree : (u v : Row) (env : List Row) (columns : List OuterColumn) → ((place : ℕ) → is_nearest columns place ≡ true → value_at u place ≡ value_at v place) → Agree columns (u ∷ env) (v ∷ env)
 nearest-agree u v env [] same = All-nil (Same_in (u ∷ env) (v ∷ env))
 nearest-agree u v env (column ∷ columns) same =
     All-cons (Same_in (u ∷ env) (v ∷ env)) column columns

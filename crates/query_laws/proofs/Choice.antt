@@ -15,7 +15,7 @@ use Rattle.bag_algebra.specs.declared.query.JoinKind.{JoinKind}
 use Rattle.bag_algebra.specs.Rewriting.{SameRows}
 use Rattle.query_laws.specs.Faults.{IsGood, Meets, PassesFaults, UnitesFaults}
 use Rattle.query_laws.specs.Holding.{InBag}
-use Rattle.query_laws.specs.Nodes.{IsFiltered, IsProjected, IsJoined, IsApplied, IsCombined, IsDistinct, IsGrouped, IsLimited, IsProvenance}
+use Rattle.query_laws.specs.Nodes.{IsFiltered, IsProjected, IsJoinOf, IsApplied, IsCombined, IsDistinct, IsGrouped, IsLimited, IsProvenance}
 use Rattle.query_laws.proofs.Limited.{ordered_once}
 use Rattle.query_laws.proofs.Once.{listed, holds_once-same}
 use Rattle.query_laws.proofs.Outcomes.{in_bag-in, in-in_bag}
@@ -81,7 +81,7 @@ project_once items input a b p q =
     (λ ts ss x y. record { counts = λ t. p.counts us ts e x (once us) (listed us) t ∙ sym (q.counts us ss e y (once us) (listed us) t) }))
 
 pub join_once : (kind : JoinKind) (condition : Row → Outcome Value) (left_width right_width : ℕ) (left right a b : Outcome Bag) →
-    IsJoined kind condition left_width right_width left right a → IsJoined kind condition left_width right_width left right b → SameRows a b
+    IsJoinOf kind condition left_width right_width left right a → IsJoinOf kind condition left_width right_width left right b → SameRows a b
 join_once kind condition left_width right_width left right a b p q =
     by_inputs a b left right p.bad q.bad
     (λ us vs e f. let k = p.evaluated us vs e f in

@@ -12,7 +12,7 @@ use Rattle.bag_algebra.specs.Outcome.{Outcome, Good, both_then, gather}
 use Rattle.bag_algebra.specs.declared.query.JoinKind.{JoinKind}
 use Rattle.query_laws.specs.Faults.{OverPairs}
 use Rattle.query_laws.specs.Holding.{InBag, HasWidth, Lists}
-use Rattle.query_laws.specs.Nodes.{IsJoined, makes, pairs_count, is_unmatched_left, is_unmatched_right, left_count, right_count}
+use Rattle.query_laws.specs.Nodes.{IsJoinOf, makes, pairs_count, is_unmatched_left, is_unmatched_right, left_count, right_count}
 use Rattle.query_laws.proofs.Filtered.{kept-rows}
 use Rattle.query_laws.proofs.Once.{in_bag-behind, in_bag-front}
 use Rattle.query_laws.proofs.Outcomes.{over-gather, over-part, over-mapped, over_pairs, gather-is, both_then-unites}
@@ -256,7 +256,7 @@ module _ (kind : JoinKind) (condition : Row → Outcome Value) (left_width right
       (over-gather (λ v. kept condition (u ++ v)) vs))
 
   pub joined : (left right : Outcome Bag) →
-      IsJoined kind condition left_width right_width left right (both_then left right (joined_rows kind condition left_width right_width))
+      IsJoinOf kind condition left_width right_width left right (both_then left right (joined_rows kind condition left_width right_width))
   joined left right = record {
     bad = both_then-unites (joined_rows kind condition left_width right_width) left right;
     evaluated = λ us vs e k. subst (OverPairs condition us vs) (sym (inputs us vs e k)) (pairs_evaluated us vs);

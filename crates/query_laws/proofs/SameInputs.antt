@@ -15,7 +15,7 @@ use Rattle.bag_algebra.specs.Rewriting.{SameRows}
 use Rattle.null_logic.specs.declared.run_fault.RunFault.{RunFault}
 use Rattle.query_laws.specs.Faults.{IsGood, Meets, PassesFaults, UnitesFaults, OverRows, OverPairs}
 use Rattle.query_laws.specs.Holding.{InBag, HoldsOnce, Lists, counted_where}
-use Rattle.query_laws.specs.Nodes.{IsFiltered, IsProjected, makes, pairs_count, is_unmatched_left, is_unmatched_right, left_count, right_count, IsJoined, is_alone, beside_count, IsApplied, IsCombined, IsDistinct, IsKey, class_values, IsClassRow, SumOverflows, IsGrouped, IsLimited, IsProvenance}
+use Rattle.query_laws.specs.Nodes.{IsFiltered, IsProjected, makes, pairs_count, is_unmatched_left, is_unmatched_right, left_count, right_count, IsJoinOf, is_alone, beside_count, IsApplied, IsCombined, IsDistinct, IsKey, class_values, IsClassRow, SumOverflows, IsGrouped, IsLimited, IsProvenance}
 use Rattle.query_laws.proofs.Applied.{times-where, beside-same, own-same}
 use Rattle.query_laws.proofs.Sums.{sum_by-same}
 use Rattle.bag_algebra.proofs.Truths.{or_turn}
@@ -161,7 +161,7 @@ module _ (kind : JoinKind) (condition : Row → Outcome Value) (us vs ws xs : Ba
       + cond (keeps_right kind && same_row (nulls left_width) u && unmatched_right-same v i) (r.counts v i) 0
 
 pub join_along : (kind : JoinKind) (condition : Row → Outcome Value) (left_width right_width : ℕ) (i j k l a : Outcome Bag) → SameRows i k → SameRows j l →
-    IsJoined kind condition left_width right_width i j a → IsJoined kind condition left_width right_width k l a
+    IsJoinOf kind condition left_width right_width i j a → IsJoinOf kind condition left_width right_width k l a
 join_along kind condition left_width right_width i j k l a s r p = record {
   bad = unites_along i j k l a s r p.bad;
   evaluated = λ ws xs e f.

@@ -60,7 +60,7 @@ abbrev pub right_count : JoinKind → (Row → Outcome Value) → ℕ → Row �
 right_count kind condition left_width t us vs rights =
     cond (keeps_right kind) (counted_where (λ v. same_row (nulls left_width ++ v) t && is_unmatched_right condition us v) vs rights) 0
 
-pub record IsJoined (kind : JoinKind) (condition : Row → Outcome Value) (left_width right_width : ℕ) (left right answer : Outcome Bag) : Type 0 where
+pub record IsJoinOf (kind : JoinKind) (condition : Row → Outcome Value) (left_width right_width : ℕ) (left right answer : Outcome Bag) : Type 0 where
   pub bad : UnitesFaults left right answer
   pub evaluated : (us vs : Bag) → left ≡ Good us → right ≡ Good vs → OverPairs condition us vs answer
   pub counts : (us vs ts : Bag) → left ≡ Good us → right ≡ Good vs → answer ≡ Good ts →

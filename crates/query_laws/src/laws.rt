@@ -29,7 +29,7 @@ ghost use Rattle.bag_algebra.specs.declared.query.Sublink.{Sublink};
 ghost use Rattle.query_laws.specs.Aggregated.{occurrences, ListsValues, IsLeast, IsGreatest};
 ghost use Rattle.bag_algebra.specs.Rewriting.{SameRows};
 ghost use Rattle.query_laws.specs.Holding.{InBag, Lists};
-ghost use Rattle.query_laws.specs.Nodes.{IsFiltered, IsProjected, IsJoined, IsApplied, IsCombined, in_either, in_both, in_left_alone, IsDistinct, IsGrouped, IsLimited, IsProvenance};
+ghost use Rattle.query_laws.specs.Nodes.{IsFiltered, IsProjected, IsJoinOf, IsApplied, IsCombined, in_either, in_both, in_left_alone, IsDistinct, IsGrouped, IsLimited, IsProvenance};
 
 /// A table has the rows that the database has for it.
 pub fn table_has_its_rows()
@@ -69,7 +69,7 @@ pub fn project_adds_counts()
 pub fn join_multiplies_counts()
     ensures { (kind : JoinKind) (left right : Query) (condition : Expr) (subs : List Sublink) (db : Database)
         (env : List Row) →
-        IsJoined kind (condition_on condition env (subs_denote subs db env)) (width_of left) (width_of right)
+        IsJoinOf kind (condition_on condition env (subs_denote subs db env)) (width_of left) (width_of right)
         (meaning left db env) (meaning right db env) (meaning (Join kind left right condition subs) db env) }
 {}
 
@@ -156,8 +156,8 @@ pub fn laws_leave_no_choice()
     ensures join { (kind : JoinKind) (condition : Row → Outcome Value) (left_width right_width : ℕ)
         (left right other another a b : Outcome Bag) →
         SameRows left other → SameRows right another →
-        IsJoined kind condition left_width right_width left right a →
-        IsJoined kind condition left_width right_width other another b → SameRows a b }
+        IsJoinOf kind condition left_width right_width left right a →
+        IsJoinOf kind condition left_width right_width other another b → SameRows a b }
     ensures apply { (kind : JoinKind) (left_width right_width : ℕ) (left other a b : Outcome Bag)
         (right another : Row → Outcome Bag) →
         SameRows left other →

@@ -7,4 +7,4 @@ mod place;
 pub use laws::characters_have_places_of_their_own;
 pub use line::line_at;
 pub(crate) use place::begins_character;
-pub use place::{Place, place_of};
+pub use place::{TextPlace, place_of};

@@ -2,9 +2,9 @@
 use Rattle.std.specs.Prelude.{◌≡◌, ◌+◌}
 use Rattle.bag_algebra.specs.Kinds.{width_of}
 use Rattle.bag_algebra.specs.declared.query.Query.{Query}
-use Rattle.rewrite_core.specs.declared.sets.columns.Columns.{Columns}
+use Rattle.rewrite_core.specs.declared.sets.columns.SetWidths.{SetWidths}
 
-pub record ColumnsOf (columns : Columns) (left rewriting : Query) : Type 0 where
+pub record ColumnsOf (columns : SetWidths) (left rewriting : Query) : Type 0 where
   pub own : columns.own ≡ width_of left
   pub kept : columns.kept ≡ width_of rewriting
   pub right : columns.right ≡ width_of rewriting + width_of left

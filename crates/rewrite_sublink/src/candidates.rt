@@ -11,7 +11,7 @@ ghost use Rattle.bag_algebra.specs.built.Scopes.{all_over_tables};
 ghost use Rattle.rewrite_sublink.specs.Candidates.{all_contributed, contributed, deciding, deciding_arm, exists_in, matching, sub_over, test_condition, test_subs, tested};
 
 use crate::decisions::deciding;
-use crate::matching::{Columns, first_column, matching};
+use crate::matching::{CandidateColumns, first_column, matching};
 use bag_algebra::{Arm, Expr, JoinKind, Query, SubKind, Sublink, exact_width};
 use contribution::{always, cross_base, join_on};
 use null_logic::Truth;
@@ -62,7 +62,7 @@ fn with_contribution(
 /// Rows beside the candidates of a sublink, and where these stand.
 struct Candidates {
     pairs: Query,
-    columns: Columns,
+    columns: CandidateColumns,
 }
 
 fn beside_candidates(
@@ -92,7 +92,7 @@ fn beside_candidates(
 }
 
 /// The base's columns stand behind the rows', and in the rewriting behind the sublink's own.
-fn candidate_columns(rows: &Query, base: &Query, standing: &Sublink) -> Result<Columns, NoMemory>
+fn candidate_columns(rows: &Query, base: &Query, standing: &Sublink) -> Result<CandidateColumns, NoMemory>
     ensures count { IfOk result (λ columns. columns.count ≡ width_of base.now) }
     ensures from { IfOk result (λ columns. columns.from ≡ width_of rows.now) }
     ensures own { IfOk result (λ columns. columns.own ≡ width_of standing.now.query) }
@@ -100,7 +100,7 @@ fn candidate_columns(rows: &Query, base: &Query, standing: &Sublink) -> Result<C
     let count = exact_width(base)?;
     let from = exact_width(rows)?;
     let own = exact_width(&standing.query)?;
-    Ok(Columns { count, from, own })
+    Ok(CandidateColumns { count, from, own })
 }
 
 /// The pairs whose candidate passes the test.

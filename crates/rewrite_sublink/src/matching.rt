@@ -11,7 +11,7 @@ use std::alloc::Global;
 /// Where a candidate stands: as many columns, from a place on in the outer row, and from another place on in the rows of the
 /// rewriting.
 #[derive(Clone, Copy)]
-pub(crate) struct Columns {
+pub(crate) struct CandidateColumns {
     pub(crate) count: usize,
     pub(crate) from: usize,
     pub(crate) own: usize,
@@ -21,7 +21,7 @@ pub(crate) struct Columns {
 pub(crate) fn matching(
     alloc: Global,
     rewriting: &Query,
-    columns: Columns,
+    columns: CandidateColumns,
 ) -> Result<Query, NoMemory>
     ensures { IfOk result (λ p. p ≡ matching columns.count columns.from columns.own rewriting.now) }
 {
@@ -42,7 +42,7 @@ fn or_nulls(alloc: Global, rewriting: &Query) -> Result<Query, NoMemory>
 }
 
 /// Whether the own columns are, one by one, the same as the candidate's, two NULLs included.
-fn same_as_outer(alloc: Global, columns: Columns) -> Result<Expr, NoMemory>
+fn same_as_outer(alloc: Global, columns: CandidateColumns) -> Result<Expr, NoMemory>
     ensures { IfOk result (λ test. test ≡ same_as_outer columns.count columns.from columns.own) }
 {
     let theirs = List::range(alloc, columns.from, columns.count)?;

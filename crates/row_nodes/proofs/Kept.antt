@@ -29,12 +29,12 @@ use Rattle.query_facts.specs.reached.reads.Columns.{AreNearest, columns_of}
 use Rattle.query_facts.proofs.AlikeRows.{picked-alike}
 use Rattle.row_nodes.specs.memory.Memory.{Remembered, Learns, found, found_under, remembered}
 use Rattle.row_nodes.specs.Keeping.{can_key, input_columns, keeps_input, keyed_at, Keeps}
-use Rattle.row_nodes.specs.Known.{IsWhole, IsInput, IsInputOf, HasInput, Answers, answer_at, asks_input, Knows, KnowsInput, KnowsOn, KnowsSub, AllKnown, IsNew, AllNew}
+use Rattle.row_nodes.specs.Known.{IsWholeAnswer, IsInput, IsInputOf, HasInput, Answers, answer_at, asks_input, Knows, KnowsInput, KnowsOn, KnowsSub, AllKnown, IsNew, AllNew}
 use Rattle.row_nodes.specs.Runs.{node_condition}
 use Rattle.row_nodes.specs.declared.keeping.Keeping.{Keeping}
 use Rattle.row_nodes.specs.declared.keeping.Keeping.TheVariants as of
-use Rattle.row_nodes.specs.declared.known.Answer.{Answer}
-use Rattle.row_nodes.specs.declared.known.Answer.TheVariants as by
+use Rattle.row_nodes.specs.declared.known.KnownAnswer.{KnownAnswer}
+use Rattle.row_nodes.specs.declared.known.KnownAnswer.TheVariants as by
 use Rattle.row_nodes.specs.declared.known.Keyed.{Keyed}
 use Rattle.row_nodes.specs.declared.known.Known.{Known}
 
@@ -159,14 +159,14 @@ module _ (n : ℕ) (db : Database) (env : List Row) (u v : Row) (keyed : Keyed) 
   input_carried (LimitOf input keys count) depth f h = tt
   input_carried (ProvOf input) depth f h = tt
 
-whole_answers : (db : Database) (inner : List Row) (q : Query) (in_cells : Bool) (answer : Answer) → IsWhole db inner q in_cells answer → Answers db inner q in_cells answer
+whole_answers : (db : Database) (inner : List Row) (q : Query) (in_cells : Bool) (answer : KnownAnswer) → IsWholeAnswer db inner q in_cells answer → Answers db inner q in_cells answer
 whole_answers db inner q in_cells by.Nothing h = tt
 whole_answers db inner q in_cells (by.Rows rows) h = h
 whole_answers db inner q in_cells (by.Cells cells) h = h
 
 -- rows of which a query reads the same values give it the same rows
-whole_carried : (places : List ℕ) (db : Database) (env : List Row) (u v : Row) (q : Query) (in_cells : Bool) (answer : Answer) → AreNearest (columns_of q) places → picked places u ≡ picked places v →
-    IsWhole db (u ∷ env) q in_cells answer → Answers db (v ∷ env) q in_cells answer
+whole_carried : (places : List ℕ) (db : Database) (env : List Row) (u v : Row) (q : Query) (in_cells : Bool) (answer : KnownAnswer) → AreNearest (columns_of q) places → picked places u ≡ picked places v →
+    IsWholeAnswer db (u ∷ env) q in_cells answer → Answers db (v ∷ env) q in_cells answer
 whole_carried places db env u v q in_cells answer kept same h =
     whole_answers db (v ∷ env) q in_cells answer (record { rows = h.rows; means = sym (picked-alike q places db u v env kept same) ∙ h.means; has = h.has })
 
@@ -179,10 +179,10 @@ of_carried (of.Input n depth) places db env u v q keyed keeps kept same h =
     input_carried n db env u v keyed (subst (λ ns. picked ns u ≡ picked ns v) kept same) q depth keeps h
 
 -- what was found is lent, or else another
-pub lent_is : (found_here : Option (Bor Answer)) (other lent : Bor Answer) (kept : Option Answer) (nothing : Answer) → lent ≡ unwrap_or found_here other → option_copied found_here ≡ kept →
+pub lent_is : (found_here : Option (Bor KnownAnswer)) (other lent : Bor KnownAnswer) (kept : Option KnownAnswer) (nothing : KnownAnswer) → lent ≡ unwrap_or found_here other → option_copied found_here ≡ kept →
     other.now ≡ nothing → lent.now ≡ unwrap_or kept nothing
-lent_is None other lent kept nothing is copied none = ap (λ (r : Bor Answer). r.now) is ∙ none ∙ ap (λ o. unwrap_or o nothing) copied
-lent_is (Some x) other lent kept nothing is copied none = ap (λ (r : Bor Answer). r.now) is ∙ ap (λ o. unwrap_or o nothing) copied
+lent_is None other lent kept nothing is copied none = ap (λ (r : Bor KnownAnswer). r.now) is ∙ none ∙ ap (λ o. unwrap_or o nothing) copied
+lent_is (Some x) other lent kept nothing is copied none = ap (λ (r : Bor KnownAnswer). r.now) is ∙ ap (λ o. unwrap_or o nothing) copied
 
 -- the rows that a filter is over are asked for where none were found
 pub no_asks : (known : Known) (keyed : Keyed) → found known.inputs ≡ Some keyed → false ≡ asks_input known
@@ -197,10 +197,10 @@ pub known_new : (db : Database) (env : List Row) (q : Query) (in_cells : Bool) (
 known_new db env q in_cells known read keeps nearest memory_is inputs_are nothing_is = record {
   nothing_is = nothing_is;
   keeps = keeps;
-  kept_by = subst (λ (m : Remembered Answer). AreNearest (columns_of q) m.places) (sym memory_is) nearest;
+  kept_by = subst (λ (m : Remembered KnownAnswer). AreNearest (columns_of q) m.places) (sym memory_is) nearest;
   input_by = ap (λ (m : Remembered Keyed). m.places) inputs_are;
   answers = λ key answer is u own.
-      let e : None ≡ Some answer = ap (λ (m : Remembered Answer). found_under m key) (sym memory_is) ∙ is in
+      let e : None ≡ Some answer = ap (λ (m : Remembered KnownAnswer). found_under m key) (sym memory_is) ∙ is in
       absurd (cc e);
   inputs = λ key keyed is u own.
       let e : None ≡ Some keyed = ap (λ (m : Remembered Keyed). found_under m key) (sym inputs_are) ∙ is in
@@ -208,17 +208,17 @@ known_new db env q in_cells known read keeps nearest memory_is inputs_are nothin
 }
 
 -- nothing answers, or what was found
-answer_is : (known : Known) (answer : Answer) → found known.memory ≡ Some answer → answer_at known ≡ answer
+answer_is : (known : Known) (answer : KnownAnswer) → found known.memory ≡ Some answer → answer_at known ≡ answer
 answer_is known answer e = ap (λ o. unwrap_or o known.nothing) e
 
 -- what is found on the row at hand is known of all rows with the same values
-module _ (db : Database) (env : List Row) (u : Row) (q : Query) (in_cells : Bool) (old new : Known) (answer : Answer)
-    (knows : Knows db env q in_cells old) (here : picked old.memory.places u ≡ old.memory.key) (whole : IsWhole db (u ∷ env) q in_cells answer)
+module _ (db : Database) (env : List Row) (u : Row) (q : Query) (in_cells : Bool) (old new : Known) (answer : KnownAnswer)
+    (knows : Knows db env q in_cells old) (here : picked old.memory.places u ≡ old.memory.key) (whole : IsWholeAnswer db (u ∷ env) q in_cells answer)
     (keeping : new.keeping ≡ old.keeping) (inputs : new.inputs ≡ old.inputs) (nothing : new.nothing ≡ old.nothing) (learns : Learns old.memory new.memory answer) where
   same_answer : (v : Row) → picked old.memory.places v ≡ old.memory.key → Answers db (v ∷ env) q in_cells answer
   same_answer v own = whole_carried old.memory.places db env u v q in_cells answer knows.kept_by (here ∙ sym own) whole
 
-  entry_answers : (key : Row) (other : Answer) (b : Bool) → same_row old.memory.key key ≡ b → found_under new.memory key ≡ Some other → (v : Row) → picked new.memory.places v ≡ key →
+  entry_answers : (key : Row) (other : KnownAnswer) (b : Bool) → same_row old.memory.key key ≡ b → found_under new.memory key ≡ Some other → (v : Row) → picked new.memory.places v ≡ key →
       Answers db (v ∷ env) q in_cells other
   entry_answers key other true e is v own =
       let at_hand : old.memory.key ≡ key = same_row-is old.memory.key key e in
@@ -244,14 +244,14 @@ module _ (db : Database) (env : List Row) (u : Row) (q : Query) (in_cells : Bool
   }
 
 -- where there was memory
-pub kept_if : {X E : Type 0} (r : Result X E) (db : Database) (env : List Row) (u : Row) (q : Query) (in_cells : Bool) (old new : Known) (answer : Answer) → Knows db env q in_cells old →
-    picked old.memory.places u ≡ old.memory.key → IsWhole db (u ∷ env) q in_cells answer → new.keeping ≡ old.keeping → new.inputs ≡ old.inputs → new.nothing ≡ old.nothing →
+pub kept_if : {X E : Type 0} (r : Result X E) (db : Database) (env : List Row) (u : Row) (q : Query) (in_cells : Bool) (old new : Known) (answer : KnownAnswer) → Knows db env q in_cells old →
+    picked old.memory.places u ≡ old.memory.key → IsWholeAnswer db (u ∷ env) q in_cells answer → new.keeping ≡ old.keeping → new.inputs ≡ old.inputs → new.nothing ≡ old.nothing →
     OnOk r (Learns old.memory new.memory answer) → OnOk r (KnowsOn db env u q in_cells new)
 kept_if (Ok x) db env u q in_cells old new answer knows here whole keeping inputs nothing learns =
     kept_on db env u q in_cells old new answer knows here whole keeping inputs nothing learns
 kept_if (Err e) db env u q in_cells old new answer knows here whole keeping inputs nothing learns = tt
 
-pub answer_kept : {X E : Type 0} (r : Result X E) (old new : Remembered Answer) (nothing answer : Answer) → OnOk r (Learns old new answer) → OnOk r (unwrap_or (found new) nothing ≡ answer)
+pub answer_kept : {X E : Type 0} (r : Result X E) (old new : Remembered KnownAnswer) (nothing answer : KnownAnswer) → OnOk r (Learns old new answer) → OnOk r (unwrap_or (found new) nothing ≡ answer)
 answer_kept (Ok x) old new nothing answer learns = ap (λ o. unwrap_or o nothing) learns.item_is
 answer_kept (Err e) old new nothing answer learns = tt
 
@@ -277,7 +277,7 @@ module _ (db : Database) (env : List Row) (u : Row) (q : Query) (in_cells : Bool
     knows = record {
       nothing_is = nothing ∙ known.knows.nothing_is;
       keeps = subst (Keeps q) (sym keeping) known.knows.keeps;
-      kept_by = subst (λ (m : Remembered Answer). AreNearest (columns_of q) m.places) (sym memory) known.knows.kept_by;
+      kept_by = subst (λ (m : Remembered KnownAnswer). AreNearest (columns_of q) m.places) (sym memory) known.knows.kept_by;
       input_by = learns.places_stay ∙ known.knows.input_by ∙ ap (λ k. range_with_len 0 (input_columns k)) (sym keeping);
       answers = λ key answer is v own.
           known.knows.answers key answer (ap (λ m. found_under m key) (sym memory) ∙ is) v (ap (λ m. picked m.places v) (sym memory) ∙ own);
@@ -298,8 +298,8 @@ input_found (Ok x) old new keyed learns = learns.item_is
 input_found (Err e) old new keyed learns = tt
 
 -- what was found answers on the row at hand
-at_hand_answers : (db : Database) (env : List Row) (u : Row) (q : Query) (in_cells : Bool) (nothing : Answer) (found_here : Option Answer) → nothing ≡ by.Nothing →
-    ((answer : Answer) → found_here ≡ Some answer → Answers db (u ∷ env) q in_cells answer) → Answers db (u ∷ env) q in_cells (unwrap_or found_here nothing)
+at_hand_answers : (db : Database) (env : List Row) (u : Row) (q : Query) (in_cells : Bool) (nothing : KnownAnswer) (found_here : Option KnownAnswer) → nothing ≡ by.Nothing →
+    ((answer : KnownAnswer) → found_here ≡ Some answer → Answers db (u ∷ env) q in_cells answer) → Answers db (u ∷ env) q in_cells (unwrap_or found_here nothing)
 at_hand_answers db env u q in_cells nothing None e h = subst (Answers db (u ∷ env) q in_cells) (sym e) tt
 at_hand_answers db env u q in_cells nothing (Some answer) e h = h answer refl
 
@@ -311,7 +311,7 @@ known_on db env u q in_cells known knows here = record {
 }
 
 -- behind a step to another row
-pub knows_stepped : (db : Database) (env : List Row) (q : Query) (in_cells : Bool) (known : Known) (u : Row) (memory : Remembered Answer) →
+pub knows_stepped : (db : Database) (env : List Row) (q : Query) (in_cells : Bool) (known : Known) (u : Row) (memory : Remembered KnownAnswer) →
     memory ≡ remembered known.memory.places (picked known.memory.places u) known.memory.entries → Knows db env q in_cells known →
     Knows db env q in_cells (record { keeping = known.keeping; memory = memory; inputs = known.inputs; nothing = known.nothing })
 knows_stepped db env q in_cells known u memory e knows =

@@ -27,8 +27,8 @@ use Rattle.row_nodes.specs.Keeping.{Keeps, KeptOf, input_columns, input_depth, i
 use Rattle.row_nodes.specs.Keyed.{AreKeyed}
 use Rattle.row_nodes.specs.declared.keeping.Keeping.{Keeping}
 use Rattle.row_nodes.specs.declared.keeping.Keeping.TheVariants as of
-use Rattle.row_nodes.specs.declared.known.Answer.{Answer}
-use Rattle.row_nodes.specs.declared.known.Answer.TheVariants as by
+use Rattle.row_nodes.specs.declared.known.KnownAnswer.{KnownAnswer}
+use Rattle.row_nodes.specs.declared.known.KnownAnswer.TheVariants as by
 use Rattle.row_nodes.specs.declared.known.Keyed.{Keyed}
 use Rattle.row_nodes.specs.declared.known.Known.{Known}
 
@@ -54,13 +54,13 @@ turned (All c) truth = truth_not truth
 turned Scalar truth = truth
 
 -- what answers for a query with these rows; a table of their first columns only where a value among these is asked for
-abbrev pub HasRows : Bool → Bag → Answer → Type 0
+abbrev pub HasRows : Bool → Bag → KnownAnswer → Type 0
 HasRows in_cells vs by.Nothing = Unit {0}
 HasRows in_cells vs (by.Rows rows) = rows ≡ vs
 HasRows in_cells vs (by.Cells cells) = IsTrue in_cells × AreCells cells vs
 
 -- the query has rows under the outer rows, and these are they
-pub record IsWhole (db : Database) (inner : List Row) (q : Query) (in_cells : Bool) (answer : Answer) : Type 0 where
+pub record IsWholeAnswer (db : Database) (inner : List Row) (q : Query) (in_cells : Bool) (answer : KnownAnswer) : Type 0 where
   pub rows : Bag
   pub means : meaning q db inner ≡ Good rows
   pub has : HasRows in_cells rows answer
@@ -103,10 +103,10 @@ pub record KeyedUnder (q : Query) (depth : ℕ) (db : Database) (u : Row) (inner
   pub on : IsKeyed q depth db inner keyed
 
 -- what answers for the query under these outer rows
-abbrev pub Answers : Database → List Row → Query → Bool → Answer → Type 0
+abbrev pub Answers : Database → List Row → Query → Bool → KnownAnswer → Type 0
 Answers db inner q in_cells by.Nothing = Unit {0}
-Answers db inner q in_cells (by.Rows rows) = IsWhole db inner q in_cells (by.Rows rows)
-Answers db inner q in_cells (by.Cells cells) = IsWhole db inner q in_cells (by.Cells cells)
+Answers db inner q in_cells (by.Rows rows) = IsWholeAnswer db inner q in_cells (by.Rows rows)
+Answers db inner q in_cells (by.Cells cells) = IsWholeAnswer db inner q in_cells (by.Cells cells)
 
 -- what is found of the query's filter so many nodes down
 abbrev pub IsInputFound : Query → ℕ → Database → List Row → Result (Option Keyed) ExecError → Type 0
@@ -131,7 +131,7 @@ FindsInput inputs None = Unit {0}
 FindsInput inputs (Some keyed) = found inputs ≡ Some keyed
 
 -- what answers for the query under the row at hand
-abbrev pub answer_at : Known → Answer
+abbrev pub answer_at : Known → KnownAnswer
 answer_at known = unwrap_or (found known.memory) known.nothing
 
 -- what was found is so on every row that has the values under which it is remembered: of the query those of the columns that it
@@ -141,7 +141,7 @@ pub record Knows (db : Database) (env : List Row) (q : Query) (in_cells : Bool) 
   pub keeps : Keeps q known.keeping
   pub kept_by : AreNearest (columns_of q) known.memory.places
   pub input_by : known.inputs.places ≡ range_with_len 0 (input_columns known.keeping)
-  pub answers : (key : Row) (answer : Answer) → found_under known.memory key ≡ Some answer → (u : Row) → picked known.memory.places u ≡ key → Answers db (u ∷ env) q in_cells answer
+  pub answers : (key : Row) (answer : KnownAnswer) → found_under known.memory key ≡ Some answer → (u : Row) → picked known.memory.places u ≡ key → Answers db (u ∷ env) q in_cells answer
   pub inputs : (key : Row) (keyed : Keyed) → found_under known.inputs key ≡ Some keyed → (u : Row) → picked known.inputs.places u ≡ key → IsInputOf q known.keeping db (u ∷ env) keyed
 
 -- and what answers under the row at hand is so on this row
@@ -159,7 +159,7 @@ abbrev pub KeyedOn : Database → Row → List Row → Query → Known → Type 
 KeyedOn db u inner q known = (keyed : Keyed) → found known.inputs ≡ Some keyed → KeyedUnder q (input_depth known.keeping) db u inner keyed
 
 -- of a sublink's query; IN and NOT IN ask for a value
-abbrev pub AnswersSub : Database → List Row → Sublink → Answer → Type 0
+abbrev pub AnswersSub : Database → List Row → Sublink → KnownAnswer → Type 0
 AnswersSub db inner sub answer = Answers db inner sub.query (tests_equality sub.kind) answer
 
 abbrev pub KnowsSub : Database → List Row → Sublink → Known → Type 0
@@ -174,7 +174,7 @@ AllKnown db env (sub ∷ subs) (known ∷ more) = KnowsSub db env sub known × A
 
 -- ---- from row to row
 
-abbrev pub is_nothing : Answer → Bool
+abbrev pub is_nothing : KnownAnswer → Bool
 is_nothing by.Nothing = true
 is_nothing (by.Rows rows) = false
 is_nothing (by.Cells cells) = false

@@ -13,7 +13,7 @@ ghost use Rattle.row_joins.specs.Cells.{AreCells};
 ghost use Rattle.row_joins.specs.Hashed.{on_pair, met_rows};
 ghost use Rattle.row_nodes.specs.Keeping.{input_depth};
 ghost use Rattle.row_nodes.specs.Keyed.{AreKeyed};
-ghost use Rattle.row_nodes.specs.Known.{AllKnown, AllNew, AreInputOf, FindsInput, HasRows, IsNew, IsWhole, Knows, KnowsInput, KnowsOn, answer_at, asks, asks_input, gone_on, gone_on_input, is_nothing, tests_equality, turned};
+ghost use Rattle.row_nodes.specs.Known.{AllKnown, AllNew, AreInputOf, FindsInput, HasRows, IsNew, IsWholeAnswer, Knows, KnowsInput, KnowsOn, answer_at, asks, asks_input, gone_on, gone_on_input, is_nothing, tests_equality, turned};
 
 use crate::input::Input;
 use crate::keeping::{Keeping, kept_of};
@@ -28,7 +28,7 @@ use std::alloc::Global;
 
 /// What answers for a query.
 #[derive(Drop)]
-pub enum Answer<'a> {
+pub enum KnownAnswer<'a> {
     /// Nothing that is known: it is run.
     Nothing,
     /// Its rows.
@@ -45,10 +45,10 @@ const LEAST_ROOM: usize = 65_536;
 #[derive(Drop)]
 pub struct Known<'a> {
     keeping: Keeping,
-    memory: Memory<Answer<'a>>,
+    memory: Memory<KnownAnswer<'a>>,
     inputs: Memory<Keyed<'a>>,
     /// What answers where nothing was found.
-    nothing: Answer<'a>,
+    nothing: KnownAnswer<'a>,
 }
 
 impl<'a> Known<'a> {
@@ -74,12 +74,12 @@ impl<'a> Known<'a> {
             keeping,
             memory,
             inputs,
-            nothing: Answer::Nothing,
+            nothing: KnownAnswer::Nothing,
         })
     }
 
     /// What answers for the query under the row at hand.
-    pub fn answer(&self) -> &Answer<'a>
+    pub fn answer(&self) -> &KnownAnswer<'a>
         ensures { result.now ≡ answer_at self.now }
     {
         self.memory.found().unwrap_or(&self.nothing)
@@ -107,11 +107,11 @@ impl<'a> Known<'a> {
     }
 
     /// Keeps what was found on the row at hand, which is of so many rows. It fails only for want of memory.
-    pub fn keep(&mut self, alloc: Global, rows: usize, answer: Answer<'a>) -> Result<(), NoMemory>
+    pub fn keep(&mut self, alloc: Global, rows: usize, answer: KnownAnswer<'a>) -> Result<(), NoMemory>
         ensures knows { (db : Database) (env : ListOf SeenRow) (row : SeenRow) (q : SeenQuery)
             (in_cells : Bool) → Knows db env q in_cells self.old →
             picked self.old.memory.places row ≡ self.old.memory.key →
-            IsWhole db (row ∷ env) q in_cells answer.entry
+            IsWholeAnswer db (row ∷ env) q in_cells answer.entry
             → OnOk result (KnowsOn db env row q in_cells self.new) }
         ensures answer { OnOk result (answer_at self.new ≡ answer.entry) }
         ensures keeping { self.new.keeping ≡ self.old.keeping }
@@ -177,13 +177,13 @@ impl<'a> Known<'a> {
     }
 }
 
-fn is_nothing(answer: &Answer) -> bool
+fn is_nothing(answer: &KnownAnswer) -> bool
     ensures { result ≡ is_nothing answer.now }
 {
     match answer {
-        Answer::Nothing => true,
-        Answer::Rows(_) => false,
-        Answer::Cells(_) => false,
+        KnownAnswer::Nothing => true,
+        KnownAnswer::Rows(_) => false,
+        KnownAnswer::Cells(_) => false,
     }
 }
 
@@ -208,14 +208,14 @@ pub fn known_subs<'a>(
 
 /// What answers for a query with these rows: where a value among their first columns is asked for, a table of these. It fails
 /// only for want of memory.
-pub fn same_rows<'a>(alloc: Global, in_cells: bool, rows: Input<'a>) -> Result<Answer<'a>, NoMemory>
+pub fn same_rows<'a>(alloc: Global, in_cells: bool, rows: Input<'a>) -> Result<KnownAnswer<'a>, NoMemory>
     ensures has { IfOk result (HasRows in_cells rows.entry) }
     ensures some { IfOk result (λ answer. is_nothing answer ≡ false) }
 {
     if in_cells {
-        return Ok(Answer::Cells(Cells::new(alloc, rows.as_slice())?));
+        return Ok(KnownAnswer::Cells(Cells::new(alloc, rows.as_slice())?));
     }
-    Ok(Answer::Rows(rows))
+    Ok(KnownAnswer::Rows(rows))
 }
 
 /// Whether the sublink is IN or NOT IN.

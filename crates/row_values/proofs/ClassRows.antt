@@ -17,7 +17,7 @@ use Rattle.row_values.specs.Answers.{Refuses}
 use Rattle.row_values.specs.declared.error.ExecError.{ExecError}
 use Rattle.row_values.specs.declared.error.ExecError.TheVariants.{Fault, NoMemory}
 use Rattle.row_values.proofs.Outcomes.{both_first, both_second, each_item, each_good, and_then_first}
-use Rattle.row_values.specs.Columns.{IsGoodOn, IsColumn, class_value, MakesRows}
+use Rattle.row_values.specs.Columns.{IsGoodOn, IsAggregateColumn, class_value, MakesRows}
 use Rattle.row_values.specs.Groups.{IsClassed, numbered}
 use Rattle.row_values.specs.declared.groups.column.Column.{Column}
 use Rattle.row_values.proofs.Keys.{numbered-is}
@@ -101,13 +101,13 @@ module _ (env : List Row) where
       shift (v ∷ vs) = λ i. sym (append_assoc (before v) (argument aggregate v ∷ []) (map (λ a. argument a v) aggregates)) i ∷ shift vs i
 
   module _ (us : Bag) (numbers : List ℕ) (count : ℕ) where
-    all_good : (aggregates : List Aggr) (columns : List Column) → AllZip (IsColumn env us numbers count) aggregates columns → AllGood aggregates us
+    all_good : (aggregates : List Aggr) (columns : List Column) → AllZip (IsAggregateColumn env us numbers count) aggregates columns → AllGood aggregates us
     all_good [] columns z = tt
     all_good (aggregate ∷ aggregates) [] z = absurd z
     all_good (aggregate ∷ aggregates) (column ∷ columns) z = (z.0.distributed.good, all_good aggregates columns z.1)
 
     values-are : (number : ℕ) → number < count → (class : Bag) → numbered number numbers us ≡ class →
-        (aggregates : List Aggr) (columns : List Column) → AllZip (IsColumn env us numbers count) aggregates columns →
+        (aggregates : List Aggr) (columns : List Column) → AllZip (IsAggregateColumn env us numbers count) aggregates columns →
         each (class_value number) columns ≡ each (λ a. aggregated a.function (map (argument a) class)) aggregates
     values-are number low class e [] [] z = refl
     values-are number low class e [] (column ∷ columns) z = absurd z
@@ -120,7 +120,7 @@ module _ (env : List Row) where
 -- ---- the whole
 
 module _ (env : List Row) (groups : List ℕ) (aggregates : List Aggr) (us keys : Bag) (numbers : List ℕ) (columns : List Column)
-    (c : IsClassed groups us keys numbers) (z : AllZip (IsColumn env us numbers (length keys)) aggregates columns) where
+    (c : IsClassed groups us keys numbers) (z : AllZip (IsAggregateColumn env us numbers (length keys)) aggregates columns) where
   good : IsGoodOn (arguments_on aggregates env) (λ u. map (λ a. argument env a u) aggregates) us
   good = arguments-good env aggregates us (all_good env us numbers (length keys) aggregates columns z)
 

@@ -25,7 +25,7 @@ pub record AreEmpty (count : ℕ) (classes : List (List Value)) : Type 0 where
   pub long : length classes ≡ count
   pub empty : (number : ℕ) → slice_index_or classes number [] ≡ []
 
-pub record IsColumn (env : List Row) (us : Bag) (numbers : List ℕ) (count : ℕ) (aggregate : Aggr) (column : Column) : Type 0 where
+pub record IsAggregateColumn (env : List Row) (us : Bag) (numbers : List ℕ) (count : ℕ) (aggregate : Aggr) (column : Column) : Type 0 where
   pub function : column.function ≡ aggregate.function
   pub distributed : Distributes (optional_value aggregate.argument env) us numbers count column.values
 

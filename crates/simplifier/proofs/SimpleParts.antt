@@ -4,7 +4,7 @@ use Rattle.perm_values.proofs.Results.{where_made}
 use Rattle.perm_values.proofs.Taken.{opened}
 use Rattle.perm_values.specs.declared.no_memory.NoMemory.{NoMemory}
 use Rattle.bag_algebra.specs.declared.query.Query.{Query}
-use Rattle.simpler_laws.specs.standing.Made.{IsMade, IsMadeOfBoth}
+use Rattle.simpler_laws.specs.standing.Made.{IsMadeOf, IsMadeOfBoth}
 use Rattle.simpler_laws.specs.merged.Once.{IsMadeOnce, itself, over}
 use Rattle.folded_literals.specs.Simple.{is_simple}
 use Rattle.folded_literals.specs.built.Simple.{simple-Distinct}
@@ -22,9 +22,9 @@ module _ (result : Result Query NoMemory) where
       ap is_simple made.is ∙ opens made.first made.second ∙ (λ i. first i && second i))
 
   pub one-simple : (node : Query → Query) → ((b : Query) → is_simple (node b) ≡ is_simple b) → (input : Result Query NoMemory) →
-      IfOk input (λ b. is_simple b ≡ true) → IfOk result (IsMade input node) → IfOk result (λ p. is_simple p ≡ true)
+      IfOk input (λ b. is_simple b ≡ true) → IfOk result (IsMadeOf input node) → IfOk result (λ p. is_simple p ≡ true)
   one-simple node opens input h =
-      where_made (IsMade input node) Simple result
+      where_made (IsMadeOf input node) Simple result
       (λ p made. ap is_simple made.is ∙ opens made.input ∙ opened Simple input made.input made.was h)
 
 once : (input : Result Query NoMemory) (p : Query) → IfOk input Simple → IsMadeOnce input p → is_simple p ≡ true

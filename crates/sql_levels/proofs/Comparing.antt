@@ -4,7 +4,7 @@ use Rattle.sql_lexer.specs.declared.token.Token.{Token}
 use Rattle.sql_tree.specs.grammar.Building as b
 use Rattle.sql_tree.specs.grammar.Building.{Word}
 use Rattle.sql_tree.specs.grammar.Cursors.{reading, past, one, sees}
-use Rattle.sql_tree.specs.grammar.Descent.{Outcome, Taken, Stopped, and_then, mapped}
+use Rattle.sql_tree.specs.grammar.Descent.{Parsed, Taken, Stopped, and_then, mapped}
 use Rattle.sql_tree.specs.grammar.built.Pieces.{between, by, passes, word_at}
 use Rattle.sql_tree.specs.grammar.Rules.{word, token, symbol, ◌then◌}
 use Rattle.sql_tree.specs.grammar.Symbols as n
@@ -25,7 +25,7 @@ sum_takes = reading-takes n.Sum refl
 pub is_test_is : (tokens : List Token) → reading n.IsTest tokens
     ≡ and_then (past s.Is tokens) (λ is first. and_then (passes s.Not first) (λ negated rest. mapped (λ t. tails.behind (negated, t)) (tails.is_tail rest)))
 is_test_is tokens = reading_is n.IsTest tokens ∙ by_word (past s.Is tokens) where
-  by_tail : (w : Word) (d : Option Word) (a c : Bool) (o p : Outcome Token Token) (q : Outcome Token (Word × (Word × ExprTree)))
+  by_tail : (w : Word) (d : Option Word) (a c : Bool) (o p : Parsed Token Token) (q : Parsed Token (Word × (Word × ExprTree)))
       → mapped (λ (v : Word × (Option Word × _)). b.is_test v.1) (mapped (λ y. (w, y)) (mapped (λ y. (d, y)) (cond a (mapped inl o) (mapped inr (cond c (mapped inl p) (mapped inr q))))))
       ≡ mapped (λ t. tails.behind (is_some d, t)) (cond a (mapped (λ t. tail.Null) o) (cond c (mapped (λ t. tail.Truth (b.truth_of t)) p) (mapped (λ v. tail.Distinct v.1.1) q)))
   by_tail w d true c (Stopped rest) p q = refl
@@ -35,7 +35,7 @@ is_test_is tokens = reading_is n.IsTest tokens ∙ by_word (past s.Is tokens) wh
   by_tail w d false false o p (Stopped rest) = refl
   by_tail w d false false o p (Taken (x, (y, second)) rest) = refl
 
-  by_negation : (w : Word) (o : Outcome Token (Option Word))
+  by_negation : (w : Word) (o : Parsed Token (Option Word))
       → mapped (λ (v : Word × (Option Word × _)). b.is_test v.1) (mapped (λ y. (w, y)) (and_then o (λ d rest. mapped (λ y. (d, y))
       (cond (sees (s.Null ∷ []) rest) (mapped inl (one (s.Null ∷ []) rest)) (mapped inr (cond (sees tails.truths rest) (mapped inl (one tails.truths rest))
       (mapped inr (by (word s.Distinct then word s.From then symbol n.Compared) rest))))))))
@@ -44,7 +44,7 @@ is_test_is tokens = reading_is n.IsTest tokens ∙ by_word (past s.Is tokens) wh
   by_negation w (Taken d rest) =
       by_tail w d (sees (s.Null ∷ []) rest) (sees tails.truths rest) (one (s.Null ∷ []) rest) (one tails.truths rest) (by (word s.Distinct then word s.From then symbol n.Compared) rest)
 
-  by_word : (o : Outcome Token Word)
+  by_word : (o : Parsed Token Word)
       → mapped (λ (v : Word × (Option Word × _)). b.is_test v.1) (and_then o (λ w first. mapped (λ y. (w, y)) (and_then (word_at s.Not first) (λ d rest. mapped (λ y. (d, y))
       (cond (sees (s.Null ∷ []) rest) (mapped inl (one (s.Null ∷ []) rest)) (mapped inr (cond (sees tails.truths rest) (mapped inl (one tails.truths rest))
       (mapped inr (by (word s.Distinct then word s.From then symbol n.Compared) rest)))))))))
@@ -58,7 +58,7 @@ pub comparison_is : (tokens : List Token) → reading n.Comparison tokens
     ≡ and_then (one (s.Equal ∷ s.NotEqual ∷ s.Less ∷ s.LessEqual ∷ s.Greater ∷ s.GreaterEqual ∷ []) tokens) (λ t rest.
     mapped tails.compared (cond (sees tails.quantifiers rest) (tails.quantified (b.comparison_of t) rest) (tails.second (b.comparison_of t) rest)))
 comparison_is tokens = reading_is n.Comparison tokens ∙ by_first (one (s.Equal ∷ s.NotEqual ∷ s.Less ∷ s.LessEqual ∷ s.Greater ∷ s.GreaterEqual ∷ []) tokens) where
-  by_test : (t : Token) (a : Bool) (o : Outcome Token (Token × QueryTree)) (p : Outcome Token ExprTree)
+  by_test : (t : Token) (a : Bool) (o : Parsed Token (Token × QueryTree)) (p : Parsed Token ExprTree)
       → mapped b.comparison (mapped (λ v. (t, v)) (cond a (mapped inl o) (mapped inr p)))
       ≡ mapped tails.compared (cond a (mapped (λ v. tail.Quantified (b.is v.0 s.All) (b.comparison_of t) v.1) o) (mapped (λ part. tail.Compared (b.comparison_of t) part) p))
   by_test t true (Stopped rest) p = refl
@@ -66,7 +66,7 @@ comparison_is tokens = reading_is n.Comparison tokens ∙ by_first (one (s.Equal
   by_test t false o (Stopped rest) = refl
   by_test t false o (Taken part rest) = refl
 
-  by_first : (o : Outcome Token Token)
+  by_first : (o : Parsed Token Token)
       → mapped b.comparison (and_then o (λ t rest. mapped (λ v. (t, v))
       (cond (sees tails.quantifiers rest) (mapped inl (by (token tails.quantifiers then symbol n.InParentheses) rest)) (mapped inr (reading n.Ranged rest)))))
       ≡ and_then o (λ t rest. mapped tails.compared (cond (sees tails.quantifiers rest) (tails.quantified (b.comparison_of t) rest) (tails.second (b.comparison_of t) rest)))
@@ -94,12 +94,12 @@ pub ranged_is : (tokens : List Token) → reading n.Ranged tokens
     ≡ and_then (reading n.Sum tokens) (λ part rest. cond (sees tails.ranges rest)
     (and_then (passes s.Not rest) (λ negated last. mapped (λ range. range negated part) (reading n.Range last))) (Taken part rest))
 ranged_is tokens = reading_is n.Ranged tokens ∙ by_part (reading n.Sum tokens) where
-  by_range : (part : ExprTree) (d : Option Word) (o : Outcome Token (Bool → ExprTree → ExprTree))
+  by_range : (part : ExprTree) (d : Option Word) (o : Parsed Token (Bool → ExprTree → ExprTree))
       → mapped b.ranged (mapped (λ y. (part, y)) (mapped Some (mapped (λ range. (d, range)) o))) ≡ mapped (λ range. range (is_some d) part) o
   by_range part d (Stopped rest) = refl
   by_range part d (Taken range rest) = refl
 
-  by_negation : (part : ExprTree) (o : Outcome Token (Option Word))
+  by_negation : (part : ExprTree) (o : Parsed Token (Option Word))
       → mapped b.ranged (mapped (λ y. (part, y)) (mapped Some (and_then o (λ d last. mapped (λ range. (d, range)) (reading n.Range last)))))
       ≡ and_then (mapped is_some o) (λ negated last. mapped (λ range. range negated part) (reading n.Range last))
   by_negation part (Stopped rest) = refl
@@ -111,7 +111,7 @@ ranged_is tokens = reading_is n.Ranged tokens ∙ by_part (reading n.Sum tokens)
   by_test part rest true = by_negation part (word_at s.Not rest)
   by_test part rest false = refl
 
-  by_part : (o : Outcome Token ExprTree)
+  by_part : (o : Parsed Token ExprTree)
       → mapped b.ranged (and_then o (λ part rest. mapped (λ y. (part, y)) (cond (sees tails.ranges rest)
       (mapped Some (and_then (word_at s.Not rest) (λ d last. mapped (λ range. (d, range)) (reading n.Range last)))) (Taken None rest))))
       ≡ and_then o (λ part rest. cond (sees tails.ranges rest)

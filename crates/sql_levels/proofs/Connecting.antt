@@ -6,7 +6,7 @@ use Rattle.sql_lexer.specs.declared.token.Token.{Token}
 use Rattle.sql_tree.specs.grammar.Building as b
 use Rattle.sql_tree.specs.grammar.Building.{Word}
 use Rattle.sql_tree.specs.grammar.Cursors.{reading, sees}
-use Rattle.sql_tree.specs.grammar.Descent.{Outcome, Taken, Stopped, and_then, mapped}
+use Rattle.sql_tree.specs.grammar.Descent.{Parsed, Taken, Stopped, and_then, mapped}
 use Rattle.sql_tree.specs.grammar.Lists.{behind, others, more_listed}
 use Rattle.sql_tree.specs.grammar.Symbols as n
 use Rattle.sql_tree.specs.declared.grammar.sort.Sort.{Sort}
@@ -17,19 +17,19 @@ use Rattle.sql_tree.proofs.Listing.{Keeps, all_of-done, all_of-step, behind-take
 use Rattle.sql_tree.proofs.Steps.{reading_is, reading-keeps}
 
 -- parts with an operator between them; one part is itself, and no list is made of it
-abbrev pub Connected : Operator → Sort → (List Token → Outcome Token ExprTree) → List Token → Outcome Token ExprTree
+abbrev pub Connected : Operator → Sort → (List Token → Parsed Token ExprTree) → List Token → Parsed Token ExprTree
 Connected op separator one tokens =
     and_then (one tokens) (λ part rest. cond (sees (separator ∷ []) rest)
     (mapped (λ parts. b.node part.at (Logic op parts)) (more_listed separator one part rest)) (Taken part rest))
 
-module _ (op : Operator) (separator : Sort) (one : List Token → Outcome Token ExprTree) (keeps : Keeps one) where
-  by_more : (part : ExprTree) (x : Word × ExprTree) (o : Outcome Token (List (Word × ExprTree)))
+module _ (op : Operator) (separator : Sort) (one : List Token → Parsed Token ExprTree) (keeps : Keeps one) where
+  by_more : (part : ExprTree) (x : Word × ExprTree) (o : Parsed Token (List (Word × ExprTree)))
       → mapped (b.logic op) (mapped (λ xs. (part, xs)) (mapped (λ xs. x ∷ xs) o))
       ≡ mapped (λ parts. b.node part.at (Logic op parts)) (mapped (λ xs. b.items (part, xs)) (mapped (λ xs. x ∷ xs) o))
   by_more part x (Stopped rest) = refl
   by_more part x (Taken xs rest) = refl
 
-  by_second : (part : ExprTree) (o : Outcome Token (Word × ExprTree))
+  by_second : (part : ExprTree) (o : Parsed Token (Word × ExprTree))
       → mapped (b.logic op) (mapped (λ xs. (part, xs)) (and_then o (λ x rest. mapped (λ xs. x ∷ xs) (others separator one rest))))
       ≡ mapped (λ parts. b.node part.at (Logic op parts)) (mapped (λ xs. b.items (part, xs)) (and_then o (λ x rest. mapped (λ xs. x ∷ xs) (others separator one rest))))
   by_second part (Stopped rest) = refl
@@ -42,7 +42,7 @@ module _ (op : Operator) (separator : Sort) (one : List Token → Outcome Token 
       rw (all_of-step (separator ∷ []) (behind separator one) (behind-takes separator one keeps) rest e) (by_second part (behind separator one rest))
   by_next part rest false e = rw (all_of-done (separator ∷ []) (behind separator one) rest e) refl
 
-  connected_is : (o : Outcome Token ExprTree)
+  connected_is : (o : Parsed Token ExprTree)
       → mapped (b.logic op) (and_then o (λ part rest. mapped (λ xs. (part, xs)) (others separator one rest)))
       ≡ and_then o (λ part rest. cond (sees (separator ∷ []) rest)
       (mapped (λ parts. b.node part.at (Logic op parts)) (more_listed separator one part rest)) (Taken part rest))

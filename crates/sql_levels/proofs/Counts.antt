@@ -3,18 +3,18 @@ use Rattle.std.proofs.Common.{◌≡◌, ℕ, List, [], ◌∷◌, length, refl,
 use Rattle.sql_lexer.specs.declared.token.Token.{Token}
 use Rattle.sql_tree.specs.grammar.Building as b
 use Rattle.sql_tree.specs.grammar.Cursors.{reading, past, offset}
-use Rattle.sql_tree.specs.grammar.Descent.{Outcome, Taken, Stopped, and_then, mapped}
+use Rattle.sql_tree.specs.grammar.Descent.{Parsed, Taken, Stopped, and_then, mapped}
 use Rattle.sql_tree.specs.grammar.Lists.{all_of}
 use Rattle.sql_tree.specs.grammar.Symbols as n
 use Rattle.sql_tree.specs.declared.grammar.sort.Sort.TheVariants as s
 use Rattle.sql_tree.proofs.Steps.{reading_is}
 
-placed-counted : {X Y Z : Type 0} (at : ℕ) (f : ℕ × (X × Y) → Z) (o : Outcome Token X) (next : List Token → Outcome Token Y)
+placed-counted : {X Y Z : Type 0} (at : ℕ) (f : ℕ × (X × Y) → Z) (o : Parsed Token X) (next : List Token → Parsed Token Y)
     → mapped f (mapped (λ x. (at, x)) (and_then o (λ x rest. mapped (λ y. (x, y)) (next rest))))
     ≡ and_then o (λ x rest. mapped (λ y. f (at, (x, y))) (next rest))
 placed-counted at f (Stopped rest) next = refl
 placed-counted {Y = Y} at f (Taken x rest) next = by_next (next rest) where
-  by_next : (p : Outcome Token Y) → mapped f (mapped (λ x. (at, x)) (mapped (λ y. (x, y)) p)) ≡ mapped (λ y. f (at, (x, y))) p
+  by_next : (p : Parsed Token Y) → mapped f (mapped (λ x. (at, x)) (mapped (λ y. (x, y)) p)) ≡ mapped (λ y. f (at, (x, y))) p
   by_next (Stopped rest) = refl
   by_next (Taken y rest) = refl
 

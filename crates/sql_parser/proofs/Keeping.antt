@@ -3,7 +3,7 @@ use Rattle.std.proofs.Common.{◌≡◌, true, false, List, [], ◌∷◌, ◌++
 use Rattle.sql_lexer.specs.declared.token.Token.{Token}
 use Rattle.sql_tree.specs.grammar.Building.{present}
 use Rattle.sql_tree.specs.grammar.Cursors.{past, sees}
-use Rattle.sql_tree.specs.grammar.Descent.{Outcome, Taken, Stopped, mapped}
+use Rattle.sql_tree.specs.grammar.Descent.{Parsed, Taken, Stopped, mapped}
 use Rattle.sql_tree.specs.grammar.Lists.{listed}
 use Rattle.sql_tree.specs.declared.grammar.sort.Sort.TheVariants.{Semicolon}
 use Rattle.sql_tree.proofs.Listing.{Keeps, Amid, Amid-first, Amid-next, Amid-stopped, Amid-done, listed-first}
@@ -12,7 +12,7 @@ use Rattle.sql_parser.proofs.Stating.{optional_statement-keeps}
 use Rattle.sql_tree.specs.declared.statement.Statement.{Statement}
 
 abbrev Whole : Type 0
-Whole = Outcome Token (List (Option Statement))
+Whole = Parsed Token (List (Option Statement))
 
 -- the whole is what was found, of which those are kept that are there, and what is still to be read
 pub record Keeping (whole : Whole) (kept : List Statement) (ts : List Token) : Type 0 where

@@ -4,7 +4,7 @@ use Rattle.std.specs.Borrow.{Bor}
 use Rattle.sql_lexer.specs.declared.token.Token.{Token}
 use Rattle.sql_tree.specs.grammar.Building as b
 use Rattle.sql_tree.specs.grammar.Cursors.{reading, one, past, offset, sees}
-use Rattle.sql_tree.specs.grammar.Descent.{Outcome, Taken, Stopped, and_then, mapped}
+use Rattle.sql_tree.specs.grammar.Descent.{Parsed, Taken, Stopped, and_then, mapped}
 use Rattle.sql_tree.specs.grammar.Grammar.{build}
 use Rattle.sql_tree.specs.grammar.Lists.{listed}
 use Rattle.sql_tree.specs.grammar.built.Pieces.{passes}
@@ -65,7 +65,7 @@ script_is tokens =
 
 pub optional_statement-keeps : (old : List Token) (x : Option Statement) (new : List Token) → optional_statement old ≡ Taken x new → length new ≤ length old
 optional_statement-keeps old x new e = by_sort (sees (begins n.StatementOf) old) (reading n.StatementOf old) refl e where
-  by_sort : (q : Bool) (o : Outcome Token Statement) → reading n.StatementOf old ≡ o → cond q (mapped Some o) (Taken None old) ≡ Taken x new → length new ≤ length old
+  by_sort : (q : Bool) (o : Parsed Token Statement) → reading n.StatementOf old ≡ o → cond q (mapped Some o) (Taken None old) ≡ Taken x new → length new ≤ length old
   by_sort true (Taken y rest) e f = let g : rest ≡ new = cc in omega (arith, reading-keeps n.StatementOf old y rest e, ap length g)
   by_sort true (Stopped rest) e f = absurd cc
   by_sort false o e f = let g : old ≡ new = cc in omega (arith, ap length g)

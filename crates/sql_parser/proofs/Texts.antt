@@ -12,7 +12,7 @@ use Rattle.sql_lexer.specs.Reading.{Front, Nothing, Ends, Refused, next}
 use Rattle.sql_lexer.proofs.OneAnswer.{one_list}
 use Rattle.sql_lexer.proofs.Sound.{IsRead, is_read}
 use Rattle.sql_tree.specs.grammar.Cursors.{reading}
-use Rattle.sql_tree.specs.grammar.Descent.{Outcome, Taken, Stopped}
+use Rattle.sql_tree.specs.grammar.Descent.{Parsed, Taken, Stopped}
 use Rattle.sql_tree.specs.grammar.Grammar.{sql}
 use Rattle.sql_tree.specs.grammar.Rules.{symbol, Spelled}
 use Rattle.sql_tree.specs.grammar.Symbols.{Symbol, Tree}
@@ -74,7 +74,7 @@ tokens-lex text tokens e = by_test (list_all is_ascii text) refl e where
   }
   by_test false ascii e = absurd cc
 
-whole-taken : {X : Type 0} (o : Outcome Token X) (x : X) → whole o ≡ Some x → o ≡ Taken x []
+whole-taken : {X : Type 0} (o : Parsed Token X) (x : X) → whole o ≡ Some x → o ≡ Taken x []
 whole-taken (Taken y []) x e = let same : y ≡ x = cc in ap (λ z. Taken z []) same
 whole-taken (Taken y (t ∷ rest)) x e = absurd cc
 whole-taken (Stopped rest) x e = absurd cc

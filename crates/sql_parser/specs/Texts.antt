@@ -6,7 +6,7 @@ use Rattle.sql_lexer.specs.Lexes.{Lexes}
 use Rattle.sql_lexer.specs.Reading.{Front, Nothing, Ends, Refused, next, word, number, unquoted, comment_or_symbol}
 use Rattle.sql_lexer.specs.declared.token.Token.{Token}
 use Rattle.sql_tree.specs.grammar.Cursors.{reading}
-use Rattle.sql_tree.specs.grammar.Descent.{Outcome, Taken, Stopped, read, reading_to, repeated}
+use Rattle.sql_tree.specs.grammar.Descent.{Parsed, Taken, Stopped, read, reading_to, repeated}
 use Rattle.sql_tree.specs.grammar.Grammar.{sql}
 use Rattle.sql_tree.specs.grammar.Rules.{symbol, Spelled}
 use Rattle.sql_tree.specs.grammar.Sorts.{word_sort, symbol_sort, same_sort}
@@ -43,7 +43,7 @@ unfoldable pub tokens_in : List ℕ → Option (List Token)
 unfolding split next class_of word number unquoted comment_or_symbol
 tokens_in text = cond (list_all is_ascii text) (split (suc (length text)) 0 text) None
 
-abbrev pub whole : {X : Type 0} → Outcome Token X → Option X
+abbrev pub whole : {X : Type 0} → Parsed Token X → Option X
 whole (Taken x []) = Some x
 whole (Taken x (t ∷ rest)) = None
 whole (Stopped rest) = None

@@ -6,7 +6,7 @@ use Rattle.sql_tree.specs.grammar.Building.{Word}
 use Rattle.sql_primaries.specs.built.Calls as spelled
 use Rattle.sql_primaries.specs.built.Calls.{arms, primary_body}
 use Rattle.sql_tree.specs.grammar.Cursors.{reading, past, one, offset, sees}
-use Rattle.sql_tree.specs.grammar.Descent.{Outcome, Taken, Stopped, and_then, mapped}
+use Rattle.sql_tree.specs.grammar.Descent.{Parsed, Taken, Stopped, and_then, mapped}
 use Rattle.sql_tree.specs.grammar.built.Pieces.{between, word_at}
 use Rattle.sql_tree.specs.grammar.Grammar.{plain_names}
 use Rattle.sql_tree.specs.grammar.Symbols as n
@@ -50,18 +50,18 @@ parentheses_is tokens =
 
 -- ---- functions
 
-pub called_is : {X : Type 0} (f : Token → X → ExprBody) (o : Outcome Token Token) (x : List Token → Outcome Token (Word × (X × Word)))
-    (arguments : Token → List Token → Outcome Token ExprBody)
+pub called_is : {X : Type 0} (f : Token → X → ExprBody) (o : Parsed Token Token) (x : List Token → Parsed Token (Word × (X × Word)))
+    (arguments : Token → List Token → Parsed Token ExprBody)
     → ((t : Token) (rest : List Token) → mapped (λ v. b.called f (t, inl v)) (x rest) ≡ arguments t rest)
     → mapped (b.called f) (and_then o (λ t rest. mapped (λ v. (t, v)) (cond (sees (s.Opening ∷ []) rest) (mapped inl (x rest)) (mapped inr (reading n.Qualified rest)))))
     ≡ and_then o (λ t rest. cond (sees (s.Opening ∷ []) rest) (arguments t rest) (spelled.named t rest))
 called_is f (Stopped rest) x arguments same = refl
 called_is {X = X} f (Taken t rest) x arguments same = by_test (sees (s.Opening ∷ []) rest) (reading n.Qualified rest) where
-  by_arguments : (p : Outcome Token (Word × (X × Word))) → mapped (b.called f) (mapped (λ v. (t, v)) (mapped inl p)) ≡ mapped (λ v. b.called f (t, inl v)) p
+  by_arguments : (p : Parsed Token (Word × (X × Word))) → mapped (b.called f) (mapped (λ v. (t, v)) (mapped inl p)) ≡ mapped (λ v. b.called f (t, inl v)) p
   by_arguments (Stopped rest) = refl
   by_arguments (Taken v rest) = refl
 
-  by_test : (a : Bool) (q : Outcome Token _)
+  by_test : (a : Bool) (q : Parsed Token _)
       → mapped (b.called f) (mapped (λ v. (t, v)) (cond a (mapped inl (x rest)) (mapped inr q))) ≡ cond a (arguments t rest) (mapped (λ name. b.column (t, name)) q)
   by_test true q = by_arguments (x rest) ∙ same t rest
   by_test false (Stopped last) = refl
@@ -94,12 +94,12 @@ count_is tokens =
     ∙ called_is (λ t arguments. arguments) (one (s.Count ∷ []) tokens) (λ rest. closed (past s.Opening rest) (reading n.Counted)) (λ t rest. spelled.count_arguments rest)
     (λ t rest. between_is (λ v. b.called (λ t arguments. arguments) (t, inl v)) (λ x. x) (λ x. refl) (past s.Opening rest) (reading n.Counted) ∙ itself _)
 
-counted-values : (o : Outcome Token (Option Word)) (x : List Token → Outcome Token ExprTree)
+counted-values : (o : Parsed Token (Option Word)) (x : List Token → Parsed Token ExprTree)
     → mapped (λ v. b.counted (inr v)) (and_then o (λ distinct rest. mapped (λ part. (distinct, part)) (x rest)))
     ≡ and_then (mapped is_some o) (λ distinct rest. mapped (λ part. e.Aggregate (spelled.count_word distinct) (Some part)) (x rest))
 counted-values (Stopped rest) x = refl
 counted-values (Taken distinct rest) x = by_word distinct (x rest) where
-  by_word : (d : Option Word) (p : Outcome Token ExprTree)
+  by_word : (d : Option Word) (p : Parsed Token ExprTree)
       → mapped (λ v. b.counted (inr v)) (mapped (λ part. (d, part)) p) ≡ mapped (λ part. e.Aggregate (spelled.count_word (is_some d)) (Some part)) p
   by_word None (Stopped rest) = refl
   by_word None (Taken part rest) = refl
@@ -116,6 +116,6 @@ counted_is tokens =
 
 pub reference_is : (tokens : List Token) → reading n.Reference tokens ≡ and_then (one plain_names tokens) (λ t rest. spelled.named t rest)
 reference_is tokens = reading_is n.Reference tokens ∙ by_first (one plain_names tokens) where
-  by_first : (o : Outcome Token Token) → mapped b.column (and_then o (λ t rest. mapped (λ name. (t, name)) (reading n.Qualified rest))) ≡ and_then o (λ t rest. spelled.named t rest)
+  by_first : (o : Parsed Token Token) → mapped b.column (and_then o (λ t rest. mapped (λ name. (t, name)) (reading n.Qualified rest))) ≡ and_then o (λ t rest. spelled.named t rest)
   by_first (Stopped rest) = refl
   by_first (Taken t rest) = fused b.column (λ name. (t, name)) (reading n.Qualified rest)

@@ -17,7 +17,7 @@ use Rattle.perm_catalog.specs.Lookups.{name_of_id}
 use Rattle.perm_catalog.specs.Sound.{IsSound}
 use Rattle.perm_catalog.specs.declared.entries.TableEntry.{TableEntry}
 use Rattle.stored_provenance.proofs.Marks.{has-entry}
-use Rattle.stored_provenance.specs.Held.{IsHeldTable}
+use Rattle.perm_catalog.specs.Held.{IsHeldTable}
 use Rattle.stored_provenance.specs.Reads.{listed}
 use Rattle.name_meaning.specs.Froms.{named_so}
 use Rattle.name_meaning.specs.Statements.{repeats}
@@ -173,7 +173,7 @@ module _ (c : Contents) (sound : IsSound c) where
   held-names : (id : ℕ) (kinds : List Kind) (h : IsHeldTable c id kinds) → names_now c id ≡ Some (named_under id h.name h.table)
   held-names id kinds h =
       let entry = has-entry c (record { names = sound.table_names; identities = sound.identities }) id
-      (record { name = h.name; table = h.table; is = h.named; id_is = h.same }) in
+      (record { name = h.name; table = h.table; is = h.named; id_is = h.id_is }) in
       ap (λ (o : Option (List ℕ × TableEntry)). option_and_then (λ name. option_map (named_under id name) (table_named c name)) (option_map (λ e. e.0) o)) entry
       ∙ ap (option_map (named_under id h.name)) h.named
 
@@ -184,7 +184,7 @@ module _ (c : Contents) (sound : IsSound c) where
       record {
         table = h.table;
         found = ap (λ (t : TableNames). table_named c t.name) is ∙ h.named;
-        same = h.same;
+        same = h.id_is;
         kinds_are = h.kinds_are;
         columns_are = sym (ap (λ (t : TableNames). t.columns) is);
         distinct = ap (λ (t : TableNames). repeats t.columns) is

@@ -4,7 +4,7 @@ ghost use Rattle.statement_meaning.specs.explains.Explains.{Explains};
 ghost use Rattle.bag_algebra.specs.Rewriting.{is_plain};
 ghost use Rattle.bag_algebra.specs.TablesRead.{EachTable};
 ghost use Rattle.perm_catalog.specs.Sound.{IsSound, IsSoundAnswer};
-ghost use Rattle.stored_provenance.specs.Held.{IsHeldTable};
+ghost use Rattle.perm_catalog.specs.Held.{IsHeldTable};
 
 use crate::answers::{a_printed_answer_is_read_back, a_printed_answer_means_the_answer};
 use crate::forms::{printable, see_names, see_tables};

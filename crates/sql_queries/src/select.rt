@@ -28,14 +28,14 @@ fn unboxed(part: Option<Boxed<ExprTree>>) -> Option<ExprTree>
 
 /// The clauses of a SELECT behind its items.
 #[derive(Drop)]
-struct Clauses {
+struct ClauseTrees {
     sources: List<FromTree>,
     condition: Option<Boxed<ExprTree>>,
     groups: List<ColRef>,
     having: Option<Boxed<ExprTree>>,
 }
 
-impl Clauses {
+impl ClauseTrees {
     fn core(
         self,
         at: usize,
@@ -161,7 +161,7 @@ impl<
     }
 
     /// The clauses behind the items.
-    fn clauses(&self, cursor: &mut Cursor<'_>) -> Result<Clauses, Unread>
+    fn clauses(&self, cursor: &mut Cursor<'_>) -> Result<ClauseTrees, Unread>
         requires sound { NestReads self.now.nest F.pre G.pre F.post G.post }
         requires below { length cursor.old ≤ self.now.nest.most }
         ensures given { spec.Reads result (spelled.clauses cursor.old) cursor.new }
@@ -171,7 +171,7 @@ impl<
         let condition = self.condition(cursor)?;
         let groups = cursor.groups()?;
         let having = self.having(cursor)?;
-        Ok(Clauses {
+        Ok(ClauseTrees {
             sources,
             condition,
             groups,

@@ -2,7 +2,7 @@
 use Rattle.std.proofs.Common.{◌≡◌, ℕ, zero, suc, ◌≤◌, Bool, true, false, cond, List, [], ◌∷◌, ◌++◌, length, refl, sym, ap, subst, ◌∙◌, append_assoc, append-nil, arith}
 use Rattle.std.proofs.lemmas.Map.Views.{list_any-from_Contains}
 use Rattle.sql_tree.specs.grammar.Rules.{◌then◌, many, placed, symbol, Grammar, RuleOf, ValueOf, StartsAt, Spelled, a_word, a_token, both, first, second, front_first, front_second, absent, present, no_more, one_more, at_place, as_symbol}
-use Rattle.sql_tree.specs.grammar.Descent.{Outcome, Taken, and_then, mapped, Tables, nullable, next_is, begins_with, start_of, is_flat, fronts, repeated, step, read}
+use Rattle.sql_tree.specs.grammar.Descent.{Parsed, Taken, and_then, mapped, Tables, nullable, next_is, begins_with, start_of, is_flat, fronts, repeated, step, read}
 use Rattle.sql_tree.proofs.Sound.{IsTold, Claims, step-claims}
 use Rattle.sql_tree.proofs.Begins.{both_true, none-left, none-right, has, HasBegins, Begins, begins}
 use Rattle.sql_tree.proofs.Depth.{Falls, shorter, and_then-alike, read-is, read-claims}
@@ -18,7 +18,7 @@ pub record IsDecided (g : Grammar) (tables : Tables g) (goes_on : g.Symbol → L
 
 module _ (g : Grammar) (tables : Tables g) (goes_on : g.Symbol → List g.Sort) (decided : IsDecided g tables goes_on) where
   -- reading by a rule
-  abbrev pub by : (r : RuleOf g) → List g.Token → Outcome g.Token (ValueOf g r)
+  abbrev pub by : (r : RuleOf g) → List g.Token → Parsed g.Token (ValueOf g r)
   by r ts = step g tables (read g tables) r ts
 
   pub by-claims : (r : RuleOf g) (ts : List g.Token) → Claims g r ts (by r ts)

@@ -1,7 +1,7 @@
 -- Reading a symbol goes as deep as it needs: what is read doesn't hang on the number of calls.
 use Rattle.std.proofs.Common.{◌≡◌, ℕ, zero, suc, ◌+◌, ◌*◌, ◌≤◌, ◌<◌, Bool, true, false, ◌&&◌, cond, List, [], ◌∷◌, ◌++◌, length, refl, sym, ap, ◌∙◌, length-append, mul-le-mul_right, ltb, lt-ltb, ltb-true, arith}
 use Rattle.sql_tree.specs.grammar.Rules.{Rule, word, token, ◌then◌, ◌or◌, front, optional, many, placed, symbol, Grammar, RuleOf, ValueOf}
-use Rattle.sql_tree.specs.grammar.Descent.{Outcome, Taken, Stopped, and_then, mapped, Tables, nullable, next_is, start_of, repeated, step, reading_to, read}
+use Rattle.sql_tree.specs.grammar.Descent.{Parsed, Taken, Stopped, and_then, mapped, Tables, nullable, next_is, start_of, repeated, step, reading_to, read}
 use Rattle.sql_tree.proofs.Sound.{IsTold, Claims, Spells, step-claims, reading-claims}
 use Rattle.sql_tree.proofs.Begins.{both_true, HasBegins, Begins, begins}
 
@@ -51,16 +51,16 @@ module _ (g : Grammar) (tables : Tables g) where
     by_front (t ∷ us) e b = omega (arith, ap length e, length-append us mid)
 
   -- two ways to read symbols that are alike below a bound
-  abbrev Alike : ((n : g.Symbol) → List g.Token → Outcome g.Token (g.Tree n)) → ((n : g.Symbol) → List g.Token → Outcome g.Token (g.Tree n)) → ℕ → Type 0
+  abbrev Alike : ((n : g.Symbol) → List g.Token → Parsed g.Token (g.Tree n)) → ((n : g.Symbol) → List g.Token → Parsed g.Token (g.Tree n)) → ℕ → Type 0
   Alike c d most = (n : g.Symbol) (ts : List g.Token) → length ts * tables.ranks + tables.rank n < most → c n ts ≡ d n ts
 
-  pub and_then-alike : (r : RuleOf g) {Y : Type 0} (ts : List g.Token) (o : Outcome g.Token (ValueOf g r)) (f h : ValueOf g r → List g.Token → Outcome g.Token Y)
+  pub and_then-alike : (r : RuleOf g) {Y : Type 0} (ts : List g.Token) (o : Parsed g.Token (ValueOf g r)) (f h : ValueOf g r → List g.Token → Parsed g.Token Y)
       → Claims g r ts o → ((x : ValueOf g r) (mid : List g.Token) → Spells g r ts x mid → f x mid ≡ h x mid) → and_then o f ≡ and_then o h
   and_then-alike r ts (Taken x mid) f h c e = e x mid c
   and_then-alike r ts (Stopped rest) f h c e = refl
 
   module _ (told : IsTold g) (has_begins : HasBegins g tables) (falls : Falls)
-      (c d : (n : g.Symbol) → List g.Token → Outcome g.Token (g.Tree n)) (claims : (n : g.Symbol) (ts : List g.Token) → Claims g (symbol n) ts (c n ts))
+      (c d : (n : g.Symbol) → List g.Token → Parsed g.Token (g.Tree n)) (claims : (n : g.Symbol) (ts : List g.Token) → Claims g (symbol n) ts (c n ts))
       (most : ℕ) (alike : Alike c d most) where
     repeated-alike : (r : RuleOf g) (k : ℕ) (sorts : List g.Sort)
         → ((ts : List g.Token) → length ts * tables.ranks + k ≤ most → step g tables c r ts ≡ step g tables d r ts)

@@ -2,7 +2,7 @@
 use Rattle.std.proofs.Common.{◌≡◌, suc, ◌+◌, Bool, true, false, not, ◌&&◌, ◌||◌, cond, List, [], ◌∷◌, ◌++◌, length, refl, sym, subst, ◌∙◌}
 use Rattle.std.specs.List.{list_any, list_all}
 use Rattle.sql_tree.specs.grammar.Rules.{Rule, word, token, ◌then◌, ◌or◌, front, optional, many, placed, symbol, Grammar, RuleOf}
-use Rattle.sql_tree.specs.grammar.Descent.{Outcome, Taken, Stopped, Tables, nullable, starts, next_is, begins_with, start_of, fronts, step, read}
+use Rattle.sql_tree.specs.grammar.Descent.{Parsed, Taken, Stopped, Tables, nullable, starts, next_is, begins_with, start_of, fronts, step, read}
 use Rattle.sql_tree.proofs.Sound.{IsTold}
 use Rattle.sql_tree.proofs.Begins.{both_true, has}
 
@@ -34,7 +34,7 @@ module _ (g : Grammar) (tables : Tables g) (goes_on : g.Symbol → List g.Sort) 
   extends_of r = extends tables.empty tables.begins goes_on r
 
   -- reading ends before the last of the tokens that are of these sorts
-  abbrev pub EndsBefore : {X : Type 0} → List (List g.Sort) → List g.Token → Outcome g.Token X → Type 0
+  abbrev pub EndsBefore : {X : Type 0} → List (List g.Sort) → List g.Token → Parsed g.Token X → Type 0
   EndsBefore sorts ts (Stopped rest) = length rest + length sorts ≡ suc (length ts)
   EndsBefore sorts ts (Taken x rest) = (length rest + length sorts ≡ suc (length ts)) × (next_is g tables (last_of [] sorts) rest ≡ true)
 

@@ -3,7 +3,7 @@ use Rattle.std.proofs.Common.{◌≡◌, ℕ, Bool, true, false, ◌||◌, cond,
 use Rattle.sql_lexer.specs.declared.token.Token.{Token}
 use Rattle.sql_tree.specs.grammar.Building as b
 use Rattle.sql_tree.specs.grammar.Cursors.{reading, past, offset, sees}
-use Rattle.sql_tree.specs.grammar.Descent.{Outcome, Taken, Stopped, and_then, mapped}
+use Rattle.sql_tree.specs.grammar.Descent.{Parsed, Taken, Stopped, and_then, mapped}
 use Rattle.sql_tree.specs.grammar.built.Pieces as piece
 use Rattle.sql_tree.specs.grammar.Sorts.{sort_of, same_sort}
 use Rattle.sql_tree.specs.grammar.Symbols as n
@@ -24,10 +24,10 @@ core-unseen : (tokens : List Token) → sees (s.Select ∷ []) tokens ≡ false 
 core-unseen tokens e = core_is tokens ∙ rw (past-unseen s.Select tokens e) refl
 
 -- behind an operand that is a core
-abbrev behind_core : ℕ → Outcome Token Core → Outcome Token QueryTree
+abbrev behind_core : ℕ → Parsed Token Core → Parsed Token QueryTree
 behind_core at o = and_then o (λ core rest. mapped (λ v. b.query_rest v at (b.core_operand core)) (piece.query_rest rest))
 
-as_operand : (at : ℕ) (o : Outcome Token Core)
+as_operand : (at : ℕ) (o : Parsed Token Core)
     → and_then (mapped b.core_operand o) (λ first rest. mapped (λ v. b.query_rest v at first) (piece.query_rest rest)) ≡ behind_core at o
 as_operand at (Taken core rest) = refl
 as_operand at (Stopped rest) = refl

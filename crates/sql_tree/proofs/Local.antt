@@ -1,7 +1,7 @@
 -- Where and how reading ends depends on the tokens up to the one at which it ends.
 use Rattle.std.proofs.Common.{◌≡◌, ℕ, zero, suc, ◌+◌, ◌*◌, ◌≤◌, ◌<◌, Bool, true, false, ◌||◌, cond, List, [], ◌∷◌, ◌++◌, length, Some, inl, inr, refl, sym, ap, subst, ◌∙◌, append_assoc, append-nil, length-append, mul-le-mul_right, ltb-true, arith}
 use Rattle.sql_tree.specs.grammar.Rules.{word, token, ◌then◌, ◌or◌, front, optional, many, placed, symbol, Grammar, RuleOf, ValueOf}
-use Rattle.sql_tree.specs.grammar.Descent.{Outcome, Taken, Stopped, and_then, mapped, Tables, nullable, next_is, begins_with, start_of, is_flat, fronts, offset_of, take_word, take_token, read}
+use Rattle.sql_tree.specs.grammar.Descent.{Parsed, Taken, Stopped, and_then, mapped, Tables, nullable, next_is, begins_with, start_of, is_flat, fronts, offset_of, take_word, take_token, read}
 use Rattle.sql_tree.proofs.Sound.{Claims, Spells}
 use Rattle.sql_tree.proofs.Begins.{both_true, has}
 use Rattle.sql_tree.proofs.Depth.{below, Below, all_below, no_longer, shorter, read-is}
@@ -13,19 +13,19 @@ pub or_false : (a : Bool) → a || false ≡ true → a ≡ true
 or_false true e = refl
 or_false false e = e
 
-pub left-mapped : {T X Y : Type 0} (f : X → Y) (o : Outcome T X) → left_of (mapped f o) ≡ left_of o
+pub left-mapped : {T X Y : Type 0} (f : X → Y) (o : Parsed T X) → left_of (mapped f o) ≡ left_of o
 left-mapped f (Taken x m) = refl
 left-mapped f (Stopped m) = refl
 
-pub left-with : {T X : Type 0} (us : List T) (o : Outcome T X) → left_of (with_left us o) ≡ us
+pub left-with : {T X : Type 0} (us : List T) (o : Parsed T X) → left_of (with_left us o) ≡ us
 left-with us (Taken x m) = refl
 left-with us (Stopped m) = refl
 
 module _ (g : Grammar) (tables : Tables g) (goes_on : g.Symbol → List g.Sort) (decided : IsDecided g tables goes_on) where
-  abbrev reads : (r : RuleOf g) → List g.Token → Outcome g.Token (ValueOf g r)
+  abbrev reads : (r : RuleOf g) → List g.Token → Parsed g.Token (ValueOf g r)
   reads = by g tables goes_on decided
 
-  left-no_longer : (r : RuleOf g) (ts : List g.Token) (o : Outcome g.Token (ValueOf g r)) → Claims g r ts o → length (left_of o) ≤ length ts
+  left-no_longer : (r : RuleOf g) (ts : List g.Token) (o : Parsed g.Token (ValueOf g r)) → Claims g r ts o → length (left_of o) ≤ length ts
   left-no_longer r ts (Taken x rest) c = no_longer g tables r ts rest x c
   left-no_longer r ts (Stopped rest) c = omega (arith, ap length c.1, length-append c.0 rest)
 
@@ -68,10 +68,10 @@ module _ (g : Grammar) (tables : Tables g) (goes_on : g.Symbol → List g.Sort) 
   abbrev IsPast : (r : RuleOf g) → List (List g.Sort) → List g.Token → Type 0
   IsPast r sorts ts = length (left_of (reads r ts)) + length sorts ≤ length ts
 
-  abbrev followed : (r s : RuleOf g) → Outcome g.Token (ValueOf g r) → Outcome g.Token (ValueOf g (r then s))
+  abbrev followed : (r s : RuleOf g) → Parsed g.Token (ValueOf g r) → Parsed g.Token (ValueOf g (r then s))
   followed r s o = and_then o (λ x mid. mapped (λ y. (x, y)) (reads s mid))
 
-  then_left : (r s : RuleOf g) (o : Outcome g.Token (ValueOf g r)) → length (left_of (followed r s o)) ≤ length (left_of o)
+  then_left : (r s : RuleOf g) (o : Parsed g.Token (ValueOf g r)) → length (left_of (followed r s o)) ≤ length (left_of o)
   then_left r s (Stopped rest) = omega arith
   then_left r s (Taken x mid) = omega (arith, read_left s mid, ap length (left-mapped {Y = ValueOf g (r then s)} (λ y. (x, y)) (reads s mid)))
 
@@ -101,7 +101,7 @@ module _ (g : Grammar) (tables : Tables g) (goes_on : g.Symbol → List g.Sort) 
   front-read (placed r) ts e = omega (arith, front-read r ts e, ap length (left-mapped {Y = ValueOf g (placed r)} (λ x. (offset_of g tables ts, x)) (reads r ts)))
   front-read (symbol n) ts e = omega (arith, read_left (symbol n) ts)
 
-  before-left : {X : Type 0} (sorts : List (List g.Sort)) (ts : List g.Token) (o : Outcome g.Token X) → EndsBefore g tables goes_on sorts ts o
+  before-left : {X : Type 0} (sorts : List (List g.Sort)) (ts : List g.Token) (o : Parsed g.Token X) → EndsBefore g tables goes_on sorts ts o
       → length (left_of o) + length sorts ≡ suc (length ts)
   before-left sorts ts (Stopped rest) e = e
   before-left sorts ts (Taken x rest) e = e.0
@@ -110,10 +110,10 @@ module _ (g : Grammar) (tables : Tables g) (goes_on : g.Symbol → List g.Sort) 
     abbrev Swap : List g.Token → List g.Token → Type 0
     Swap = Swapped t rest ws
 
-    abbrev Keeps : {X : Type 0} → Outcome g.Token X → Outcome g.Token X → Type 0
+    abbrev Keeps : {X : Type 0} → Parsed g.Token X → Parsed g.Token X → Type 0
     Keeps = Kept t rest ws
 
-    joined-kept : (r s : RuleOf g) {Z : Type 0} (ts : List g.Token) (o p : Outcome g.Token (ValueOf g r)) (h : ValueOf g r → ValueOf g s → Z)
+    joined-kept : (r s : RuleOf g) {Z : Type 0} (ts : List g.Token) (o p : Parsed g.Token (ValueOf g r)) (h : ValueOf g r → ValueOf g s → Z)
         → Claims g r ts o → Keeps o p → ((x : ValueOf g r) (m n : List g.Token) → Spells g r ts x m → Swap m n → Keeps (reads s m) (reads s n))
         → Keeps (and_then o (λ x mid. mapped (h x) (reads s mid))) (and_then p (λ x mid. mapped (h x) (reads s mid)))
     joined-kept r s ts (Stopped m) p h c (inl k) next = inl (k.0, k.1, rw k.2 refl)
@@ -124,7 +124,7 @@ module _ (g : Grammar) (tables : Tables g) (goes_on : g.Symbol → List g.Sort) 
         let left = ap length (left-mapped (h x) (reads s m)) in
         inr (omega (arith, left, read_left s m))
 
-    cond-kept : {X : Type 0} (a b : Bool) (o p o' p' : Outcome g.Token X) → a ≡ b → Keeps o o' → Keeps p p' → Keeps (cond a o p) (cond b o' p')
+    cond-kept : {X : Type 0} (a b : Bool) (o p o' p' : Parsed g.Token X) → a ≡ b → Keeps o o' → Keeps p p' → Keeps (cond a o p) (cond b o' p')
     cond-kept a b o p o' p' e k l = subst (λ c. Keeps (cond a o p) (cond c o' p')) e (by_test a) where
       by_test : (a : Bool) → Keeps (cond a o p) (cond a o' p')
       by_test true = k

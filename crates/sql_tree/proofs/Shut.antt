@@ -4,7 +4,7 @@ use Rattle.std.specs.List.{list_any}
 use Rattle.sql_lexer.specs.declared.token.Token.{Token}
 use Rattle.sql_tree.specs.grammar.Building as b
 use Rattle.sql_tree.specs.grammar.Rules.{word, token, ◌then◌, ◌or◌, optional, many, placed, symbol}
-use Rattle.sql_tree.specs.grammar.Descent.{Outcome, Taken, Stopped, and_then, mapped, start_of, repeated, step, read}
+use Rattle.sql_tree.specs.grammar.Descent.{Parsed, Taken, Stopped, and_then, mapped, start_of, repeated, step, read}
 use Rattle.sql_tree.specs.grammar.Grammar.{SqlRule, Given, sql, body, build, in_parentheses, plain_names}
 use Rattle.sql_tree.specs.grammar.Sorts.{names, same_sort, sort_of}
 use Rattle.sql_tree.specs.grammar.Symbols as n
@@ -20,7 +20,7 @@ use Rattle.sql_tree.proofs.TablesHold.{told, has_begins, has_falls}
 use Rattle.sql_tree.specs.declared.source.FromSource.TheVariants.{Named}
 use Rattle.sql_tree.specs.declared.source.ScopeMark.TheVariants.{Plain}
 
-abbrev reads : (r : SqlRule) → List Token → Outcome Token (Given r)
+abbrev reads : (r : SqlRule) → List Token → Parsed Token (Given r)
 reads r ts = step sql sql_tables (read sql sql_tables) r ts
 
 -- the words of functions

@@ -3,7 +3,7 @@ use Rattle.std.proofs.Common.{◌≡◌, inl, inr, ℕ, zero, suc, Bool, true, f
 use Rattle.std.specs.List.{list_any}
 use Rattle.std.proofs.lemmas.Map.Views.{Contains-from_any}
 use Rattle.sql_tree.specs.grammar.Rules.{word, token, ◌then◌, ◌or◌, front, optional, many, placed, symbol, Grammar, RuleOf, ValueOf, StartsAt, Spelled, a_word, a_token, both, first, second, front_first, front_second, absent, present, no_more, one_more, at_place, as_symbol}
-use Rattle.sql_tree.specs.grammar.Descent.{Outcome, Taken, Stopped, and_then, mapped, Tables, next_is, begins_with, start_of, fronts, offset_of, take_word, take_token, repeated, step, reading_to}
+use Rattle.sql_tree.specs.grammar.Descent.{Parsed, Taken, Stopped, and_then, mapped, Tables, next_is, begins_with, start_of, fronts, offset_of, take_word, take_token, repeated, step, reading_to}
 
 -- the test of a grammar's sorts tells them apart
 pub record IsTold (g : Grammar) : Type 0 where
@@ -20,7 +20,7 @@ module _ (g : Grammar) where
   Spells r ts x rest = (us : List g.Token) × (ts ≡ us ++ rest) × Spelled g r us x
 
   -- what an outcome claims
-  abbrev pub Claims : (r : RuleOf g) → List g.Token → Outcome g.Token (ValueOf g r) → Type 0
+  abbrev pub Claims : (r : RuleOf g) → List g.Token → Parsed g.Token (ValueOf g r) → Type 0
   Claims r ts (Taken x rest) = Spells r ts x rest
   Claims r ts (Stopped rest) = IsEnd ts rest
 
@@ -30,34 +30,34 @@ module _ (g : Grammar) where
   end_behind : {r : RuleOf g} {ts mid rest : List g.Token} {x : ValueOf g r} → Spells r ts x mid → IsEnd mid rest → IsEnd ts rest
   end_behind {rest = rest} a b = (a.0 ++ b.0, a.1 ∙ ap (λ l. a.0 ++ l) b.1 ∙ sym (append_assoc a.0 b.0 rest))
 
-  then-claims : (r s : RuleOf g) (ts : List g.Token) (o : Outcome g.Token (ValueOf g r)) (f : List g.Token → Outcome g.Token (ValueOf g s))
+  then-claims : (r s : RuleOf g) (ts : List g.Token) (o : Parsed g.Token (ValueOf g r)) (f : List g.Token → Parsed g.Token (ValueOf g s))
       → Claims r ts o → ((mid : List g.Token) → Claims s mid (f mid)) → Claims (r then s) ts (and_then o (λ x mid. mapped (λ y. (x, y)) (f mid)))
   then-claims r s ts (Stopped rest) f a b = a
   then-claims r s ts (Taken x mid) f a b = onward (f mid) (b mid) where
-    onward : (p : Outcome g.Token (ValueOf g s)) → Claims s mid p → Claims (r then s) ts (mapped (λ y. (x, y)) p)
+    onward : (p : Parsed g.Token (ValueOf g s)) → Claims s mid p → Claims (r then s) ts (mapped (λ y. (x, y)) p)
     onward (Taken y rest) c = spells_both a c
     onward (Stopped rest) c = end_behind a c
 
   -- one outcome of another's kind, with a value made of its value
-  mapped-claims : (r s : RuleOf g) (ts : List g.Token) (f : ValueOf g r → ValueOf g s) (o : Outcome g.Token (ValueOf g r))
+  mapped-claims : (r s : RuleOf g) (ts : List g.Token) (f : ValueOf g r → ValueOf g s) (o : Parsed g.Token (ValueOf g r))
       → ((us : List g.Token) (x : ValueOf g r) → Spelled g r us x → Spelled g s us (f x)) → Claims r ts o → Claims s ts (mapped f o)
   mapped-claims r s ts f (Taken x rest) onward c = (c.0, c.1, onward c.0 x c.2)
   mapped-claims r s ts f (Stopped rest) onward c = c
 
-  cond-claims : (s : RuleOf g) (ts : List g.Token) (b : Bool) (o p : Outcome g.Token (ValueOf g s)) → Claims s ts o → Claims s ts p → Claims s ts (cond b o p)
+  cond-claims : (s : RuleOf g) (ts : List g.Token) (b : Bool) (o p : Parsed g.Token (ValueOf g s)) → Claims s ts o → Claims s ts p → Claims s ts (cond b o p)
   cond-claims s ts true o p c d = c
   cond-claims s ts false o p c d = d
 
-  more-claims : (r : RuleOf g) (ts : List g.Token) (o : Outcome g.Token (ValueOf g r)) (f : List g.Token → Outcome g.Token (List (ValueOf g r)))
+  more-claims : (r : RuleOf g) (ts : List g.Token) (o : Parsed g.Token (ValueOf g r)) (f : List g.Token → Parsed g.Token (List (ValueOf g r)))
       → Claims r ts o → ((mid : List g.Token) → Claims (many r) mid (f mid)) → Claims (many r) ts (and_then o (λ x mid. mapped (λ xs. x ∷ xs) (f mid)))
   more-claims r ts (Stopped rest) f a b = a
   more-claims r ts (Taken x mid) f a b = onward (f mid) (b mid) where
-    onward : (p : Outcome g.Token (List (ValueOf g r))) → Claims (many r) mid p → Claims (many r) ts (mapped (λ xs. x ∷ xs) p)
+    onward : (p : Parsed g.Token (List (ValueOf g r))) → Claims (many r) mid p → Claims (many r) ts (mapped (λ xs. x ∷ xs) p)
     onward (Taken xs rest) c = (a.0 ++ c.0, a.1 ∙ ap (λ l. a.0 ++ l) c.1 ∙ sym (append_assoc a.0 c.0 rest), one_more a.2 c.2)
     onward (Stopped rest) c = end_behind a c
 
   module _ (tables : Tables g) where
-    repeated-claims : (r : RuleOf g) (sorts : List g.Sort) (one : List g.Token → Outcome g.Token (ValueOf g r)) → ((ts : List g.Token) → Claims r ts (one ts))
+    repeated-claims : (r : RuleOf g) (sorts : List g.Sort) (one : List g.Token → Parsed g.Token (ValueOf g r)) → ((ts : List g.Token) → Claims r ts (one ts))
         → (count : ℕ) (ts : List g.Token) → Claims (many r) ts (repeated g tables sorts one count ts)
     unfolding repeated
     repeated-claims r sorts one claims zero ts = ([], refl, no_more)
@@ -66,7 +66,7 @@ module _ (g : Grammar) where
         (more-claims r ts (one ts) (repeated g tables sorts one count) (claims ts) (repeated-claims r sorts one claims count))
         ([], refl, no_more)
 
-    module _ (told : IsTold g) (calls : (n : g.Symbol) → List g.Token → Outcome g.Token (g.Tree n)) (claims : (n : g.Symbol) (ts : List g.Token) → Claims (symbol n) ts (calls n ts)) where
+    module _ (told : IsTold g) (calls : (n : g.Symbol) → List g.Token → Parsed g.Token (g.Tree n)) (claims : (n : g.Symbol) (ts : List g.Token) → Claims (symbol n) ts (calls n ts)) where
       word-claims : (sort : g.Sort) (ts : List g.Token) → Claims (word sort) ts (take_word g tables sort ts)
       word-claims sort [] = ([], refl)
       word-claims sort (t ∷ rest) = by_test (g.same (g.sort t) sort) refl where
@@ -81,7 +81,7 @@ module _ (g : Grammar) where
         by_test true e = (t ∷ [], refl, a_token (Contains-from_any told.sound (g.sort t) sorts e))
         by_test false e = ([], refl)
 
-      placed-claims : (r : RuleOf g) (ts : List g.Token) (o : Outcome g.Token (ValueOf g r)) → Claims r ts o → Claims (placed r) ts (mapped (λ x. (offset_of g tables ts, x)) o)
+      placed-claims : (r : RuleOf g) (ts : List g.Token) (o : Parsed g.Token (ValueOf g r)) → Claims r ts o → Claims (placed r) ts (mapped (λ x. (offset_of g tables ts, x)) o)
       placed-claims r ts (Taken x rest) c = (c.0, c.1, at_place c.2 (starts_at c.0 ts c.1)) where
         starts_at : (us whole : List g.Token) → whole ≡ us ++ rest → StartsAt g (offset_of g tables whole) us
         starts_at [] whole e = tt

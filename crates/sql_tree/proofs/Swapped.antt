@@ -1,7 +1,7 @@
 -- Two lists of tokens that are alike up to some token.
 use Rattle.std.proofs.Common.{◌≡◌, ◌⊎◌, suc, ◌+◌, ◌≤◌, ◌<◌, ◌&&◌, List, [], ◌∷◌, ◌++◌, length, inl, inr, refl, ap, arith}
 use Rattle.sql_tree.specs.grammar.Rules.{Grammar}
-use Rattle.sql_tree.specs.grammar.Descent.{Outcome, Taken, Stopped, mapped, Tables, next_is, begins_with}
+use Rattle.sql_tree.specs.grammar.Descent.{Parsed, Taken, Stopped, mapped, Tables, next_is, begins_with}
 use Rattle.sql_tree.proofs.Begins.{has}
 
 -- the second list has other tokens behind one token
@@ -32,19 +32,19 @@ module _ {T : Type 0} (t : T) (rest ws : List T) where
   swapped-end (there s) e = let h = swapped-longer s in absurd (omega arith)
 
 module _ {T X : Type 0} where
-  abbrev pub left_of : Outcome T X → List T
+  abbrev pub left_of : Parsed T X → List T
   left_of (Taken x rest) = rest
   left_of (Stopped rest) = rest
 
-  abbrev pub with_left : List T → Outcome T X → Outcome T X
+  abbrev pub with_left : List T → Parsed T X → Parsed T X
   with_left us (Taken x rest) = Taken x us
   with_left us (Stopped rest) = Stopped us
 
   -- either both outcomes are the same up to the token, or the first has passed it
-  abbrev pub Kept : T → List T → List T → Outcome T X → Outcome T X → Type 0
+  abbrev pub Kept : T → List T → List T → Parsed T X → Parsed T X → Type 0
   Kept t rest ws o p = ((us : List T) × Swapped t rest ws (left_of o) us × (p ≡ with_left us o)) ⊎ (length (left_of o) ≤ length rest)
 
-pub mapped-kept : {T X Y : Type 0} (t : T) (rest ws : List T) (f : X → Y) (o p : Outcome T X) → Kept t rest ws o p → Kept t rest ws (mapped f o) (mapped f p)
+pub mapped-kept : {T X Y : Type 0} (t : T) (rest ws : List T) (f : X → Y) (o p : Parsed T X) → Kept t rest ws o p → Kept t rest ws (mapped f o) (mapped f p)
 mapped-kept t rest ws f (Taken x m) p (inl k) = inl (k.0, k.1, ap (mapped f) k.2)
 mapped-kept t rest ws f (Taken x m) p (inr k) = inr k
 mapped-kept t rest ws f (Stopped m) p (inl k) = inl (k.0, k.1, ap (mapped f) k.2)

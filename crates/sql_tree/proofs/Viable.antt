@@ -1,7 +1,7 @@
 -- Where reading stops, the tokens before begin something that the rule spells.
 use Rattle.std.proofs.Common.{◌≡◌, ℕ, zero, suc, Bool, true, false, ◌&&◌, cond, List, [], ◌∷◌, ◌++◌, length, Option, Some, None, is_some, option_map, inl, inr, refl, sym, ap, subst, ◌∙◌, append_assoc, arith}
 use Rattle.sql_tree.specs.grammar.Rules.{Rule, word, token, ◌then◌, ◌or◌, front, optional, many, placed, symbol, Grammar, RuleOf, ValueOf, Spelled, a_word, a_token, both, first, second, front_first, front_second, absent, present, no_more, one_more, at_place, as_symbol}
-use Rattle.sql_tree.specs.grammar.Descent.{Outcome, Taken, Stopped, and_then, mapped, Tables, next_is, begins_with, start_of, fronts, offset_of, take_word, take_token, repeated, step, reading_to, read}
+use Rattle.sql_tree.specs.grammar.Descent.{Parsed, Taken, Stopped, and_then, mapped, Tables, next_is, begins_with, start_of, fronts, offset_of, take_word, take_token, repeated, step, reading_to, read}
 use Rattle.sql_tree.proofs.Sound.{IsTold, Claims, Spells, step-claims, reading-claims}
 use Rattle.sql_tree.proofs.Begins.{both_true}
 
@@ -37,7 +37,7 @@ module _ (g : Grammar) where
   abbrev pub IsViable : RuleOf g → List g.Token → List g.Token → Type 0
   IsViable r ts rest = (us ws : List g.Token) × (x : ValueOf g r) × (ts ≡ us ++ rest) × Spelled g r (us ++ ws) x
 
-  abbrev pub Viable : (r : RuleOf g) → List g.Token → Outcome g.Token (ValueOf g r) → Type 0
+  abbrev pub Viable : (r : RuleOf g) → List g.Token → Parsed g.Token (ValueOf g r) → Type 0
   Viable r ts (Taken x rest) = Unit {0}
   Viable r ts (Stopped rest) = IsViable r ts rest
 
@@ -92,7 +92,7 @@ module _ (g : Grammar) where
     nothing_yet : (r : RuleOf g) (ts : List g.Token) → IsSampled r → IsViable r ts ts
     nothing_yet r ts a = ([], a.0, a.1, refl, a.2)
 
-    mapped-viable : (r s : RuleOf g) (ts : List g.Token) (f : ValueOf g r → ValueOf g s) (o : Outcome g.Token (ValueOf g r))
+    mapped-viable : (r s : RuleOf g) (ts : List g.Token) (f : ValueOf g r → ValueOf g s) (o : Parsed g.Token (ValueOf g r))
         → ((us : List g.Token) (x : ValueOf g r) → Spelled g r us x → (y : ValueOf g s) × Spelled g s us y) → Viable r ts o → Viable s ts (mapped f o)
     mapped-viable r s ts f (Taken x rest) onward v = tt
     mapped-viable r s ts f (Stopped rest) onward v =
@@ -113,22 +113,22 @@ module _ (g : Grammar) where
         let w = join (v.0 ++ v.1) b.0 v.2 b.1 v.4 b.2 in
         (v.0, v.1 ++ b.0, w.0, v.3, subst (λ l. Spelled g q l w.0) (append_assoc v.0 v.1 b.0) w.1)
 
-    joined-viable : (r s q : RuleOf g) (ts : List g.Token) (o : Outcome g.Token (ValueOf g r)) (f : List g.Token → Outcome g.Token (ValueOf g s))
+    joined-viable : (r s q : RuleOf g) (ts : List g.Token) (o : Parsed g.Token (ValueOf g r)) (f : List g.Token → Parsed g.Token (ValueOf g s))
         → (h : ValueOf g r → ValueOf g s → ValueOf g q) → IsSampled s
         → ((us vs : List g.Token) (x : ValueOf g r) (y : ValueOf g s) → Spelled g r us x → Spelled g s vs y → (z : ValueOf g q) × Spelled g q (us ++ vs) z)
         → Claims g r ts o → Viable r ts o → ((mid : List g.Token) → Viable s mid (f mid)) → Viable q ts (and_then o (λ x mid. mapped (h x) (f mid)))
     joined-viable r s q ts (Stopped rest) f h b join c v w = viable_before r s q ts rest v b join
     joined-viable r s q ts (Taken x mid) f h b join c v w = onward (f mid) (w mid) where
-      onward : (p : Outcome g.Token (ValueOf g s)) → Viable s mid p → Viable q ts (mapped (h x) p)
+      onward : (p : Parsed g.Token (ValueOf g s)) → Viable s mid p → Viable q ts (mapped (h x) p)
       onward (Taken y rest) v = tt
       onward (Stopped rest) v = viable_behind r s q ts mid rest x c v join
 
-    cond-viable : (s : RuleOf g) (ts : List g.Token) (b : Bool) (o p : Outcome g.Token (ValueOf g s)) → Viable s ts o → Viable s ts p → Viable s ts (cond b o p)
+    cond-viable : (s : RuleOf g) (ts : List g.Token) (b : Bool) (o p : Parsed g.Token (ValueOf g s)) → Viable s ts o → Viable s ts p → Viable s ts (cond b o p)
     cond-viable s ts true o p c d = c
     cond-viable s ts false o p c d = d
 
     module _ (tables : Tables g) (told : IsTold g) where
-      repeated-viable : (r : RuleOf g) (sorts : List g.Sort) (one : List g.Token → Outcome g.Token (ValueOf g r)) → ((ts : List g.Token) → Claims g r ts (one ts))
+      repeated-viable : (r : RuleOf g) (sorts : List g.Sort) (one : List g.Token → Parsed g.Token (ValueOf g r)) → ((ts : List g.Token) → Claims g r ts (one ts))
           → ((ts : List g.Token) → Viable r ts (one ts)) → (count : ℕ) (ts : List g.Token) → Viable (many r) ts (repeated g tables sorts one count ts)
       unfolding repeated
       repeated-viable r sorts one claims viable zero ts = tt
@@ -138,7 +138,7 @@ module _ (g : Grammar) where
           (claims ts) (viable ts) (repeated-viable r sorts one claims viable count))
           tt
 
-      module _ (calls : (n : g.Symbol) → List g.Token → Outcome g.Token (g.Tree n)) (claims : (n : g.Symbol) (ts : List g.Token) → Claims g (symbol n) ts (calls n ts))
+      module _ (calls : (n : g.Symbol) → List g.Token → Parsed g.Token (g.Tree n)) (claims : (n : g.Symbol) (ts : List g.Token) → Claims g (symbol n) ts (calls n ts))
           (viable : (n : g.Symbol) (ts : List g.Token) → Viable (symbol n) ts (calls n ts)) where
         word-viable : (sort : g.Sort) (ts : List g.Token) → Viable (word sort) ts (take_word g tables sort ts)
         word-viable sort [] = nothing_yet (word sort) [] (sample (word sort) refl)

@@ -21,7 +21,7 @@ use Rattle.statement_meaning.proofs.Asked.{asked-by_breaks}
 use Rattle.statement_meaning.specs.Asking.{Settled, asked, asks}
 use Rattle.statement_meaning.specs.Turns.{Accepted, Refused, Meets, answer_text, answered, on_good, select}
 use Rattle.statement_meaning.specs.laws.Asks.{AsksFor}
-use Rattle.statement_meaning.specs.laws.Printed.{IsTextOf, ListsBag}
+use Rattle.statement_meaning.specs.laws.Printed.{IsPrintedAs, ListsBag}
 
 pub same_answer : (a b : Answer) → r.Select a ≡ r.Select b → a ≡ b
 same_answer a b e = cc
@@ -56,7 +56,7 @@ module _ (c : Contents) (statement : Statement) (answer : Answer) (asked_for : A
   asked-bad faults e = asked-meaning (Bad faults) e
 
 -- the text of a bag lists its rows in order
-pub listed-text : (answer : Answer) (bag : Bag) → IsTextOf answer (sorted (printed_cmp answer.keys) bag) (answer_text answer bag)
+pub listed-text : (answer : Answer) (bag : Bag) → IsPrintedAs answer (sorted (printed_cmp answer.keys) bag) (answer_text answer bag)
 listed-text answer bag = record { ordered = sorted-is_sorted (printed_cmp answer.keys) (printed_total answer.keys) bag; written = refl }
 
 pub lists-bag : (answer : Answer) (bag : Bag) → ListsBag answer bag (answer_text answer bag)
@@ -77,7 +77,7 @@ pub bad-answer : (c : Contents) (statement : Statement) (answer : Answer) (fault
 bad-answer c statement answer faults asked_for bad = asked-bad c statement answer asked_for faults bad
 
 -- texts of the same rows are one
-pub same_text : (answer : Answer) (rows others : Bag) (text other : List ℕ) → IsTextOf answer rows text → IsTextOf answer others other
+pub same_text : (answer : Answer) (rows others : Bag) (text other : List ℕ) → IsPrintedAs answer rows text → IsPrintedAs answer others other
     → rows ≡ others → text ≡ other
 same_text answer rows others text other a b e = a.written ∙ ap (answer_bytes answer.names) e ∙ sym b.written
 

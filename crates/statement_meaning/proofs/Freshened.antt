@@ -10,10 +10,10 @@ use Rattle.perm_catalog.proofs.Named.{named-changed, named-last, named-without}
 use Rattle.perm_catalog.specs.Changes.{is_free, renewed, table_named, view_named, with_rows_of, with_table, with_view, without_table, without_view}
 use Rattle.perm_catalog.specs.Contents.{Contents}
 use Rattle.perm_catalog.specs.Sound.{IsSound}
-use Rattle.perm_catalog.specs.Stored.{IsDrawn, IsFresh, IsSoundMark}
+use Rattle.perm_catalog.specs.Stored.{IsDrawn, IsFresh, IsSoundStored}
 use Rattle.perm_catalog.specs.declared.column.Column.{Column}
-use Rattle.perm_catalog.specs.declared.entries.Kept.{Kept}
-use Rattle.perm_catalog.specs.declared.entries.Mark.{Mark}
+use Rattle.perm_catalog.specs.declared.entries.SourceVersion.{SourceVersion}
+use Rattle.perm_catalog.specs.declared.entries.StoredQuery.{StoredQuery}
 use Rattle.perm_catalog.specs.declared.entries.TableEntry.{TableEntry}
 use Rattle.name_meaning.specs.declared.answer.Resolved.{Resolved}
 use Rattle.name_meaning.specs.declared.answer.Resolved.TheVariants as r
@@ -24,19 +24,19 @@ use Rattle.statement_meaning.specs.Turns.{identity_of}
 use Rattle.statement_meaning.proofs.Freshness.{ends-fresh, never-again, stays-fresh}
 use Rattle.statement_meaning.proofs.Leaving.{Cases, leaves, leaves-weaker, sound-leaves}
 use Rattle.statement_meaning.proofs.Sounder.{known}
-use Rattle.statement_meaning.specs.laws.Freshened.{IsRead, IsUnread, MeetsStored, written}
+use Rattle.statement_meaning.specs.laws.Freshened.{IsStoredRead, IsUnread, MeetsStored, written}
 use Rattle.statement_meaning.specs.laws.Leaving.{Leaves}
 use Rattle.statement_meaning.specs.laws.Sounder.{KeepsSound}
 
 -- ---- freshness
 
 -- what a change of the table of this name, if any, leaves of what is stored
-pub record Keeps (c : Contents) (stored : Mark) (changed : Option (List ℕ)) (d : Contents) : Type 0 where
+pub record Keeps (c : Contents) (stored : StoredQuery) (changed : Option (List ℕ)) (d : Contents) : Type 0 where
   pub never : IsFresh d stored → IsFresh c stored
   pub stays : IfSome changed (IsUnread c stored) → IsFresh c stored → IsFresh d stored
-  pub ends : IfSome changed (λ (name : List ℕ). IsRead c stored name → IsFresh d stored → ⊥)
+  pub ends : IfSome changed (λ (name : List ℕ). IsStoredRead c stored name → IsFresh d stored → ⊥)
 
-module _ (c : Contents) (sound : IsSound c) (stored : Mark) (drawn : All (IsDrawn c) stored.kept) where
+module _ (c : Contents) (sound : IsSound c) (stored : StoredQuery) (drawn : All (IsDrawn c) stored.kept) where
   keeps-same : (d : Contents) → d.tables ≡ c.tables → Keeps c stored None d
   keeps-same d same = record {
     never = λ fresh. subst (λ tables. IsFresh (record d { tables = tables }) stored) same fresh;
@@ -44,7 +44,7 @@ module _ (c : Contents) (sound : IsSound c) (stored : Mark) (drawn : All (IsDraw
     ends = tt;
   }
 
-  module _ (name : List ℕ) (columns : List Column) (rows : Bag) (mark : Option Mark) (free : is_free c name ≡ true) where
+  module _ (name : List ℕ) (columns : List Column) (rows : Bag) (mark : Option StoredQuery) (free : is_free c name ≡ true) where
     abbrev made : TableEntry
     made = record { id = c.next; version = c.next; columns = columns; stored = mark }
 
@@ -61,7 +61,7 @@ module _ (c : Contents) (sound : IsSound c) (stored : Mark) (drawn : All (IsDraw
               let low = numbers.id in
               omega (arith, low, new, id));
           stays = λ unread fresh. stays-fresh c d name (Some made) change (are-apart c sound) (are-apart d after) stored drawn
-              (subst (λ (o : Option TableEntry). IfSome o (λ (table : TableEntry). All (λ (kept : Kept). kept.id ≢ table.id) stored.kept)) (sym none) tt) fresh;
+              (subst (λ (o : Option TableEntry). IfSome o (λ (table : TableEntry). All (λ (kept : SourceVersion). kept.id ≢ table.id) stored.kept)) (sym none) tt) fresh;
           ends = tt;
         }
 
@@ -70,7 +70,7 @@ module _ (c : Contents) (sound : IsSound c) (stored : Mark) (drawn : All (IsDraw
     newer = renewed c.next table
 
     -- its version was drawn now
-    newer-new : (kept : Kept) → IsDrawn c kept → (t : TableEntry) → Some newer ≡ Some t → t.id ≡ kept.id → t.version ≡ kept.version → ⊥
+    newer-new : (kept : SourceVersion) → IsDrawn c kept → (t : TableEntry) → Some newer ≡ Some t → t.id ≡ kept.id → t.version ≡ kept.version → ⊥
     newer-new kept numbers t e id version =
         let new : c.next ≡ t.version = ap (λ (x : TableEntry). x.version) (same_Some newer t e) in
         let low = numbers.version in
@@ -85,7 +85,7 @@ module _ (c : Contents) (sound : IsSound c) (stored : Mark) (drawn : All (IsDraw
           ends = ends-fresh c d name (Some newer) change (are-apart c sound) (are-apart d after) stored drawn newer-new;
         }
 
-  none-new : (kept : Kept) → IsDrawn c kept → (t : TableEntry) → None ≡ Some t → t.id ≡ kept.id → t.version ≡ kept.version → ⊥
+  none-new : (kept : SourceVersion) → IsDrawn c kept → (t : TableEntry) → None ≡ Some t → t.id ≡ kept.id → t.version ≡ kept.version → ⊥
   none-new kept numbers t e id version = none_is_some e
 
   keeps-dropped : (name : List ℕ) (id : ℕ) → IsSound (without_table c name id) → Keeps c stored (Some name) (without_table c name id)
@@ -116,12 +116,12 @@ module _ (c : Contents) (sound : IsSound c) (stored : Mark) (drawn : All (IsDraw
 
 -- ---- what a table of the catalog stores
 
-module _ (c : Contents) (at : ℕ) (statement : Resolved) (name : List ℕ) (table : TableEntry) (stored : Mark)
+module _ (c : Contents) (at : ℕ) (statement : Resolved) (name : List ℕ) (table : TableEntry) (stored : StoredQuery)
     (meets : MeetsStored c statement name table stored) (keeps : KeepsSound (asks c at statement)) where
   stored-drawn : All (IsDrawn c) stored.kept
   stored-drawn =
       let t = meets.sound.tables name table meets.named in
-      (subst (λ (o : Option Mark). IfSome o (IsSoundMark c table.columns t.rows)) meets.stores t.stored).drawn
+      (subst (λ (o : Option StoredQuery). IfSome o (IsSoundStored c table.columns t.rows)) meets.stores t.stored).drawn
 
   leaves-keeps : Leaves (Keeps c stored (written statement)) (asks c at statement)
   leaves-keeps =
@@ -135,7 +135,7 @@ module _ (c : Contents) (at : ℕ) (statement : Resolved) (name : List ℕ) (tab
   still-fresh fresh unread =
       leaves-weaker (Keeps c stored (written statement)) (λ d. IsFresh d stored) (λ d k. k.stays unread fresh) (asks c at statement) leaves-keeps
 
-  pub no-more-fresh : (changed : List ℕ) → written statement ≡ Some changed → IsRead c stored changed → Leaves (λ d. IsFresh d stored → ⊥) (asks c at statement)
+  pub no-more-fresh : (changed : List ℕ) → written statement ≡ Some changed → IsStoredRead c stored changed → Leaves (λ d. IsFresh d stored → ⊥) (asks c at statement)
   no-more-fresh changed is read =
       leaves-weaker (Keeps c stored (written statement)) (λ d. IsFresh d stored → ⊥)
-      (λ d k. subst (λ (o : Option (List ℕ)). IfSome o (λ (n : List ℕ). IsRead c stored n → IsFresh d stored → ⊥)) is k.ends read) (asks c at statement) leaves-keeps
+      (λ d k. subst (λ (o : Option (List ℕ)). IfSome o (λ (n : List ℕ). IsStoredRead c stored n → IsFresh d stored → ⊥)) is k.ends read) (asks c at statement) leaves-keeps

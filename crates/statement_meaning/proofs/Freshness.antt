@@ -7,11 +7,11 @@ use Rattle.perm_catalog.proofs.Named.{AtName, Elsewhere, found, found-apart, sam
 use Rattle.perm_catalog.specs.Changes.{table_named}
 use Rattle.perm_catalog.specs.Contents.{Contents}
 use Rattle.perm_catalog.specs.Stored.{is_unchanged, IsDrawn, IsFresh}
-use Rattle.perm_catalog.specs.declared.entries.Kept.{Kept}
-use Rattle.perm_catalog.specs.declared.entries.Mark.{Mark}
+use Rattle.perm_catalog.specs.declared.entries.SourceVersion.{SourceVersion}
+use Rattle.perm_catalog.specs.declared.entries.StoredQuery.{StoredQuery}
 use Rattle.perm_catalog.specs.declared.entries.TableEntry.{TableEntry}
 use Rattle.stored_provenance.proofs.Marks.{AreApart, IsHere, all-pass, here-unchanged, none-fails, unchanged-here}
-use Rattle.statement_meaning.specs.laws.Freshened.{IsRead, IsUnread}
+use Rattle.statement_meaning.specs.laws.Freshened.{IsStoredRead, IsUnread}
 
 -- ---- one table of a name changed, put there, or taken away
 
@@ -63,40 +63,40 @@ module _ (c d : Contents) (name : List ℕ) (put : Option TableEntry)
 
   -- ---- what a table stores
 
-  module _ (before : AreApart c) (after : AreApart d) (stored : Mark) (drawn : All (IsDrawn c) stored.kept) where
-    here-all : (e : Contents) → AreApart e → IsFresh e stored → (kept : Kept) → Contains stored.kept kept → IsHere e kept.id kept.version
+  module _ (before : AreApart c) (after : AreApart d) (stored : StoredQuery) (drawn : All (IsDrawn c) stored.kept) where
+    here-all : (e : Contents) → AreApart e → IsFresh e stored → (kept : SourceVersion) → Contains stored.kept kept → IsHere e kept.id kept.version
     here-all e apart fresh kept among =
         unchanged-here e apart kept
-        (All-contains (λ (k : Kept). is_unchanged e k ≡ true) stored.kept kept (none-fails (is_unchanged e) stored.kept fresh) among)
+        (All-contains (λ (k : SourceVersion). is_unchanged e k ≡ true) stored.kept kept (none-fails (is_unchanged e) stored.kept fresh) among)
 
-    fresh-all : (e : Contents) → AreApart e → ((kept : Kept) → Contains stored.kept kept → IsHere e kept.id kept.version) → IsFresh e stored
+    fresh-all : (e : Contents) → AreApart e → ((kept : SourceVersion) → Contains stored.kept kept → IsHere e kept.id kept.version) → IsFresh e stored
     fresh-all e apart here =
         all-pass (is_unchanged e) stored.kept
-        (All-weaker (Contains stored.kept) (λ (k : Kept). is_unchanged e k ≡ true) (λ k among. here-unchanged e apart k (here k among)) stored.kept
+        (All-weaker (Contains stored.kept) (λ (k : SourceVersion). is_unchanged e k ≡ true) (λ k among. here-unchanged e apart k (here k among)) stored.kept
         (All-contains_itself stored.kept))
 
     -- what is there now with a number that was drawn before
     abbrev IsNew : Type 0
-    IsNew = (kept : Kept) → IsDrawn c kept → IsOther kept.id kept.version
+    IsNew = (kept : SourceVersion) → IsDrawn c kept → IsOther kept.id kept.version
 
     pub never-again : IsNew → IsFresh d stored → IsFresh c stored
     never-again new fresh =
         fresh-all c before
         (λ kept among. was-here kept.id kept.version (new kept (All-contains (IsDrawn c) stored.kept kept drawn among)) (here-all d after fresh kept among))
 
-    unread-by : (o : Option TableEntry) → table_named c name ≡ o → IfSome o (λ (table : TableEntry). All (λ (kept : Kept). kept.id ≢ table.id) stored.kept)
-        → (kept : Kept) → Contains stored.kept kept → (t : TableEntry) → table_named c name ≡ Some t → t.id ≢ kept.id
+    unread-by : (o : Option TableEntry) → table_named c name ≡ o → IfSome o (λ (table : TableEntry). All (λ (kept : SourceVersion). kept.id ≢ table.id) stored.kept)
+        → (kept : SourceVersion) → Contains stored.kept kept → (t : TableEntry) → table_named c name ≡ Some t → t.id ≢ kept.id
     unread-by None none unread kept among t is = absurd (let e : None ≡ Some t = sym none ∙ is in cc)
     unread-by (Some table) is_there unread kept among t is =
         let same : table ≡ t = (let e : Some table ≡ Some t = sym is_there ∙ is in cc) in
-        λ e. All-contains (λ (k : Kept). k.id ≢ table.id) stored.kept kept unread among (sym e ∙ ap (λ (x : TableEntry). x.id) (sym same))
+        λ e. All-contains (λ (k : SourceVersion). k.id ≢ table.id) stored.kept kept unread among (sym e ∙ ap (λ (x : TableEntry). x.id) (sym same))
 
     pub stays-fresh : IsUnread c stored name → IsFresh c stored → IsFresh d stored
     stays-fresh unread fresh =
         fresh-all d after
         (λ kept among. stays-here kept.id kept.version (unread-by (table_named c name) refl unread kept among) (here-all c before fresh kept among))
 
-    pub ends-fresh : IsNew → IsRead c stored name → IsFresh d stored → ⊥
+    pub ends-fresh : IsNew → IsStoredRead c stored name → IsFresh d stored → ⊥
     ends-fresh new read fresh =
         let h = here-all d after fresh read.kept read.among in
         gone before read.table read.named read.kept.version

@@ -1,20 +1,16 @@
 -- A statement that breaks no rule names what is there, and its query can run.
 use Rattle.std.proofs.Common.{◌≡◌, ◌∙◌, ℕ, true, false, not, List, [], ◌∷◌, ◌++◌, length, Option, Some, None, IsSome, refl, sym, ap, subst}
 use Rattle.std.proofs.lemmas.Bool.{not-false}
-use Rattle.std.proofs.lemmas.List.Elements.{All-contains}
 use Rattle.std.specs.Option.{option_map_or}
 use Rattle.std.specs.Prelude.{is_none, is_some}
 use Rattle.perm_values.proofs.Lists.{front-none, back-none}
 use Rattle.perm_values.proofs.Steps.{is_none-is}
-use Rattle.bag_algebra.proofs.TablesRead.{each_table-from_told}
-use Rattle.bag_algebra.specs.TablesRead.{EachTable, TableRead, tables_read}
 use Rattle.query_facts.specs.monotone.Conditions.{ConditionFits}
 use Rattle.perm_catalog.specs.Changes.{table_named, view_named, is_free}
 use Rattle.perm_catalog.specs.Contents.{Contents}
 use Rattle.perm_catalog.specs.Lookups.{first_user}
-use Rattle.perm_catalog.specs.Sound.{IsHeldRead, IsSound, IsSoundAnswer}
+use Rattle.perm_catalog.specs.Sound.{IsSound, IsSoundAnswer}
 use Rattle.perm_catalog.specs.declared.entries.TableEntry.{TableEntry}
-use Rattle.perm_catalog.specs.declared.entries.ViewEntry.{ViewEntry}
 use Rattle.sql_tree.specs.Regular.{RegularStatement, RegularStatementBody, RegularQuery}
 use Rattle.sql_tree.specs.declared.expression.ExprTree.{ExprTree}
 use Rattle.sql_tree.specs.declared.name.Name.{Name}
@@ -22,19 +18,17 @@ use Rattle.sql_tree.specs.declared.query.QueryTree.{QueryTree}
 use Rattle.sql_tree.specs.declared.statement.Statement.{Statement}
 use Rattle.sql_tree.specs.declared.statement.StatementBody.{StatementBody}
 use Rattle.sql_tree.specs.declared.statement.StatementBody.TheVariants as st
-use Rattle.name_meaning.specs.Meanings.{OutColumn, QueryMeant, broken, broken_if}
+use Rattle.name_meaning.specs.Meanings.{OutColumn, broken, broken_if}
 use Rattle.name_meaning.specs.Froms.{names_of, settled_columns}
 use Rattle.name_meaning.specs.Queries.{may_not_ask}
-use Rattle.name_meaning.specs.Statements.{alone, answer_of, columns_of, delete_made, has_boolean, impact_query, query_meant, breaks, name_breaks, limit_breaks, named_query_breaks, on_table, repeated_columns, repeats, resolved, resolved_body, taken, unknown_table, unknown_view, used, view_entry}
+use Rattle.name_meaning.specs.Statements.{alone, answer_of, columns_of, delete_made, has_boolean, impact_query, query_meant, breaks, name_breaks, limit_breaks, named_query_breaks, on_table, repeated_columns, repeats, resolved, resolved_body, taken, unknown_table, unknown_view, used}
 use Rattle.name_meaning.specs.declared.answer.Break.{Break}
 use Rattle.name_meaning.proofs.Every.{unbroken-not}
-use Rattle.name_meaning.proofs.Impacts.{impact-stands, earlier-none}
-use Rattle.name_meaning.proofs.Named.{view-reads}
+use Rattle.name_meaning.proofs.Impacts.{earlier-none, impact-stands, tables-held}
 use Rattle.name_meaning.proofs.TreeLaws.{query-answer, query-closed, query-wide}
 use Rattle.name_meaning.proofs.FittingTables.{tables-fit}
 use Rattle.name_meaning.proofs.SettledKinds.{settled-names}
 use Rattle.name_meaning.specs.laws.Formed.{IsAnswer}
-use Rattle.stored_provenance.specs.Held.{IsHeldTable}
 use Rattle.statement_meaning.specs.Ready.{CanExplain, CanLose, CanRun, IsReady}
 use Rattle.name_meaning.specs.declared.rule.Rule.TheVariants as rule
 
@@ -72,17 +66,6 @@ module _ (c : Contents) where
     fitting = tables-fit c tree alone sound [];
   }
 
-  -- what it reads is held
-  held-read : (view : ViewEntry) (read : TableRead) → IsHeldRead c view read → IsHeldTable c read.id read.kinds
-  held-read view read h = record { name = h.name; table = h.table; named = h.named; same = h.id; kinds_are = h.kinds }
-
-  pub tables-held : (tree : QueryTree) → IsSound c → EachTable (IsHeldTable c) ((query_meant c tree).make [])
-  tables-held tree sound =
-      let m : QueryMeant = query_meant c tree in
-      each_table-from_told (IsHeldTable c) (m.make [])
-      (λ read among. held-read (view_entry m) read
-      (All-contains (IsHeldRead c (view_entry m)) (tables_read (m.make [])) read (view-reads c sound tree) among))
-
   -- it has as many names as columns, and its keys are among these
   pub sound-answer : (tree : QueryTree) → IsSound c → RegularQuery tree → (query_meant c tree).breaks ≡ [] → IsSoundAnswer (answer_of (query_meant c tree))
   sound-answer tree sound regular whole =
@@ -96,7 +79,7 @@ module _ (c : Contents) where
 
   can_explain : (tree : QueryTree) → IsSound c → RegularQuery tree → (query_meant c tree).breaks ≡ [] → CanExplain c (answer_of (query_meant c tree))
   can_explain tree sound regular whole =
-      record { sound = sound; is = sound-answer tree sound regular whole; held = tables-held tree sound }
+      record { sound = sound; is = sound-answer tree sound regular whole; held = tables-held c sound tree alone [] }
 
   -- what breaks no rule of CREATE TABLE AS
   pub named-whole : (table : Name) (tree : QueryTree) → name_breaks c (st.CreateTableAs table tree) ≡ []

@@ -33,7 +33,7 @@ use Rattle.perm_catalog.specs.Changes.{table_named, is_free, rows_at, with_more_
 use Rattle.perm_catalog.specs.Columns.{column_kinds}
 use Rattle.perm_catalog.specs.Contents.{Contents}
 use Rattle.perm_catalog.specs.Sound.{IsSound}
-use Rattle.perm_catalog.specs.Stored.{IsFresh, IsSoundMark, mark_of}
+use Rattle.perm_catalog.specs.Stored.{IsFresh, IsSoundStored, mark_of}
 use Rattle.perm_catalog.specs.declared.column.Column.{Column}
 use Rattle.perm_catalog.specs.declared.entries.TableEntry.{TableEntry}
 use Rattle.perm_io.specs.Found.{Found, Read, Missing, TooLong, Failed}
@@ -41,7 +41,7 @@ use Rattle.delete_impact.specs.vanishing.Doomed.{doomed_on}
 use Rattle.name_meaning.specs.declared.answer.Resolved.{Resolved}
 use Rattle.name_meaning.specs.declared.answer.Resolved.TheVariants as r
 use Rattle.statement_meaning.specs.Asking.{asks}
-use Rattle.stored_provenance.specs.Held.{IsHeldTable}
+use Rattle.perm_catalog.specs.Held.{IsHeldTable}
 use Rattle.statement_meaning.specs.Ready.{CanRun, IsReady}
 use Rattle.statement_meaning.specs.Turns.{drawing, counting, identity_of, with_added, add_rows, add_unbroken, answered, copy, row_value, rows_before, rows_deleted, rows_lost, remembered, store_answer, with_answer}
 use Rattle.statement_meaning.proofs.Leaving.{leaves-drawing, leaves-good}
@@ -95,7 +95,7 @@ sorted-fit cmp rows kinds h = each-fit kinds (sorted cmp rows) (each-sorted (Mad
 
 -- what is made of a query with PROVENANCE is remembered soundly, and is fresh
 abbrev pub MarkHolds : Contents → List Column → Bag → List ℕ → Query → Type 0
-MarkHolds c columns rows places query = IsSoundMark c columns rows (mark_of c query places) × IsFresh c (mark_of c query places)
+MarkHolds c columns rows places query = IsSoundStored c columns rows (mark_of c query places) × IsFresh c (mark_of c query places)
 
 abbrev pub NewMark : Type 0
 NewMark = (c : Contents) (columns : List Column) (rows : Bag) (input : Query) (places : List ℕ) → IsSound c
@@ -150,14 +150,14 @@ module _ (new_mark : NewMark) (c : Contents) (sound : IsSound c) where
     same-ordered = subst (λ (o : Outcome Bag). SameRows o (Good ordered)) (sym good) (same_bag-sorted (printed_cmp answer.keys) rows)
 
     pub mark-at : (there : List ℕ) → AsksAt columns answer.query there
-        → IsSoundMark c columns ordered (mark_of c answer.query there) × IsFresh c (mark_of c answer.query there)
+        → IsSoundStored c columns ordered (mark_of c answer.query there) × IsFresh c (mark_of c answer.query there)
     mark-at there at =
         subst (MarkHolds c columns ordered there) (sym at.asks)
         (new_mark c columns ordered at.input there sound (subst (WellFormed []) at.asks can.formed) (subst (EachTable (IsHeldTable c)) at.asks adds.held)
         (ap kinds_of (sym at.asks) ∙ adds.kinds) at.within
         (subst (λ (query : Query). SameRows (meaning query (rows_in c.rows) []) (Good ordered)) at.asks same-ordered))
 
-    marks-sound : (there : Option (List ℕ)) → IfSome there (AsksAt columns answer.query) → IfSome (remembered c answer there) (IsSoundMark c columns ordered)
+    marks-sound : (there : Option (List ℕ)) → IfSome there (AsksAt columns answer.query) → IfSome (remembered c answer there) (IsSoundStored c columns ordered)
     marks-sound None asks = tt
     marks-sound (Some there) asks = (mark-at there asks).0
 

@@ -35,9 +35,10 @@ use Rattle.name_meaning.proofs.Every.{unbroken-not}
 use Rattle.name_meaning.proofs.SettledKinds.{settled-kinds}
 use Rattle.name_meaning.proofs.TreeLaws.{query-answer, query-closed, query-wide}
 use Rattle.name_meaning.proofs.Trees.{query-known}
+use Rattle.name_meaning.proofs.Impacts.{tables-held}
 use Rattle.name_meaning.specs.laws.Formed.{IsAnswer}
 use Rattle.name_meaning.specs.laws.Known.{HasItsKinds, column_kinds_of}
-use Rattle.statement_meaning.proofs.Ready.{named-whole, query-whole, tables-held}
+use Rattle.statement_meaning.proofs.Ready.{named-whole, query-whole}
 use Rattle.statement_meaning.proofs.Words.{opened}
 use Rattle.statement_meaning.specs.laws.Sounder.{AddsAnswer, AsksAt}
 
@@ -163,7 +164,7 @@ module _ (c : Contents) (sound : IsSound c) (table : Name) (tree : QueryTree) (r
     columns_are = columns-are;
     closed = (query-closed c tree alone sound regular query_none refl []).0;
     kinds = kinds-are;
-    held = tables-held c tree sound;
+    held = tables-held c sound tree alone [];
     asks = asks-at columns (m.make []) (width_of (m.make [])) m.places wide
         (subst AsksWhereMarked (sym (opened c tree)) (asks-seen alone tree.at (set_of_tree c tree.body) tree.order tree.limit)) answer.places;
   }

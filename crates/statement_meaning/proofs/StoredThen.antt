@@ -18,7 +18,7 @@ use Rattle.perm_catalog.specs.Contents.{Contents}
 use Rattle.perm_catalog.specs.Sound.{IsSound}
 use Rattle.perm_catalog.specs.Stored.{mark_of}
 use Rattle.perm_catalog.specs.declared.column.Column.{Column}
-use Rattle.perm_catalog.specs.declared.entries.Mark.{Mark}
+use Rattle.perm_catalog.specs.declared.entries.StoredQuery.{StoredQuery}
 use Rattle.perm_catalog.specs.declared.entries.TableEntry.{TableEntry}
 use Rattle.name_meaning.specs.declared.answer.Resolved.{Resolved}
 use Rattle.name_meaning.specs.declared.answer.Resolved.TheVariants as r
@@ -37,7 +37,7 @@ use Rattle.statement_meaning.specs.laws.Sounder.{AddsSoundly}
 
 module _ (new_mark : NewMark) (c : Contents) (at : ℕ) (name : List ℕ) (columns : List Column) (answer : Answer) (places : List ℕ) (sound : IsSound c)
     (ready : IsReady c (r.CreateTableAs name columns answer (Some places))) (adds : AddsSoundly c (r.CreateTableAs name columns answer (Some places))) where
-  abbrev mark : Mark
+  abbrev mark : StoredQuery
   mark = mark_of c answer.query places
 
   module _ (rows : Bag) (good : meaning answer.query (rows_in c.rows) [] ≡ Good rows) where
@@ -116,7 +116,7 @@ pub leaves-nothing : (c : Contents) (at : ℕ) (statement : Resolved) (name : Li
 leaves-nothing c at statement name ready is = leaves (StoresNothing name) c at statement (forgets-cases c name statement ready is)
 
 module _ (c : Contents) (sound : IsSound c) (name : List ℕ) (table : TableEntry) (is : table_named c name ≡ Some table) where
-  beside-new : (other : List ℕ) (columns : List Column) (rows : Bag) (mark : Option Mark) → is_free c other ≡ true
+  beside-new : (other : List ℕ) (columns : List Column) (rows : Bag) (mark : Option StoredQuery) → is_free c other ≡ true
       → IsStill name table (with_table c other columns rows mark)
   beside-new other columns rows mark free =
       let d : Contents = with_table c other columns rows mark in

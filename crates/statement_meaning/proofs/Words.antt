@@ -28,7 +28,7 @@ use Rattle.name_meaning.specs.declared.answer.Break.{Break}
 use Rattle.name_meaning.proofs.Trees.{set-known}
 use Rattle.statement_meaning.proofs.Ready.{names-whole}
 use Rattle.statement_meaning.proofs.Answered.{same_answer}
-use Rattle.statement_meaning.specs.laws.Asks.{AsksFor, HasWord, IsResolved, WithoutWord, in_core, in_first, plain_core, plain_first, shown_names, with_body}
+use Rattle.statement_meaning.specs.laws.Asks.{AsksFor, HasWord, ResolvesTo, WithoutWord, in_core, in_first, plain_core, plain_first, shown_names, with_body}
 
 -- ---- the word, from the tree
 
@@ -128,7 +128,7 @@ module _ (c : Contents) (statement : Statement) (answer : Answer) (tree : QueryT
       plain-seen c plain_tree (no_word c tree.body body without)
       ∙ ap (λ (q : QueryMeant). plain_query tree.at q tree.order tree.limit) (sym same_body)
 
-  pub word-proves : (plain : Answer) × IsResolved c (with_body tree body) plain × (answer.query ≡ Prov plain.query) × (answer.keys ≡ plain.keys)
+  pub word-proves : (plain : Answer) × ResolvesTo c (with_body tree body) plain × (answer.query ≡ Prov plain.query) × (answer.keys ≡ plain.keys)
   word-proves = (
     answer_of (query_meant c plain_tree),
     record { whole = ap (λ (q : QueryMeant). q.breaks) plain_seen ∙ all-none; is = refl },
@@ -153,7 +153,7 @@ proved-names own m query e none =
 
 pub word-names : (c : Contents) (statement : Statement) (answer plain : Answer) (tree : QueryTree) (at : ℕ) (body : SetTree)
     → IsSound c → AsksFor c statement answer → statement.body ≡ st.Select tree → HasWord at tree.body → WithoutWord tree.body body
-    → IsResolved c (with_body tree body) plain
+    → ResolvesTo c (with_body tree body) plain
     → answer.names ≡ plain.names ++ shown_names (provenance_columns plain.query)
 word-names c statement answer plain tree at body sound asked_for is word without resolved =
     let m : QueryMeant = body_meant c tree.body in

@@ -12,7 +12,7 @@ use Rattle.perm_catalog.specs.Changes.{table_named, view_named, is_free}
 use Rattle.perm_catalog.specs.Contents.{Contents}
 use Rattle.perm_catalog.specs.Lookups.{first_user}
 use Rattle.perm_catalog.specs.Sound.{IsSound, IsSoundAnswer}
-use Rattle.stored_provenance.specs.Held.{IsHeldTable}
+use Rattle.perm_catalog.specs.Held.{IsHeldTable}
 use Rattle.name_meaning.specs.declared.answer.Resolved.{Resolved}
 use Rattle.name_meaning.specs.declared.answer.Resolved.TheVariants as r
 use Rattle.statement_meaning.specs.Turns.{identity_of}

@@ -23,8 +23,8 @@ use Rattle.perm_catalog.specs.Changes.{table_named, rows_at, with_table, with_mo
 use Rattle.perm_catalog.specs.Contents.{Contents}
 use Rattle.perm_catalog.specs.Stored.{first_changed, mark_of}
 use Rattle.perm_catalog.specs.declared.column.Column.{Column}
-use Rattle.perm_catalog.specs.declared.entries.Kept.{Kept}
-use Rattle.perm_catalog.specs.declared.entries.Mark.{Mark}
+use Rattle.perm_catalog.specs.declared.entries.SourceVersion.{SourceVersion}
+use Rattle.perm_catalog.specs.declared.entries.StoredQuery.{StoredQuery}
 use Rattle.perm_catalog.specs.declared.entries.TableEntry.{TableEntry}
 use Rattle.perm_catalog.specs.declared.entries.ViewEntry.{ViewEntry}
 use Rattle.delete_impact.specs.vanishing.Doomed.{after_deletion, doomed_on}
@@ -167,7 +167,7 @@ impact c at name condition answer = on_good at (rows_before (identity_of c name)
 -- ---- CREATE TABLE AS: the table holds the rows of its query, in the order of the query's keys, then of all columns
 
 -- a query with PROVENANCE, whose provenance columns have places, is remembered with what it reads now
-abbrev pub remembered : Contents → Answer → Option (List ℕ) → Option Mark
+abbrev pub remembered : Contents → Answer → Option (List ℕ) → Option StoredQuery
 remembered c answer places = option_map (mark_of c answer.query) places
 
 abbrev pub with_answer : Contents → List ℕ → List Column → Answer → Option (List ℕ) → Bag → Contents
@@ -188,16 +188,16 @@ create_table_as c at name columns answer places = on_good at (meaning answer.que
 -- ---- SHOW FRESH
 
 -- by the first table, in the order in which the stored query reads them, that isn't what it was
-abbrev pub freshness_told : Option Kept → List ℕ
+abbrev pub freshness_told : Option SourceVersion → List ℕ
 freshness_told None = codes "fresh\n"
 freshness_told (Some kept) = codes "stale " ++ kept.table ++ codes "\n"
 
 -- by what the table stores of provenance
-abbrev pub freshness_text : Contents → Option Mark → List ℕ
+abbrev pub freshness_text : Contents → Option StoredQuery → List ℕ
 freshness_text c None = codes "not stored\n"
 freshness_text c (Some stored) = freshness_told (first_changed c stored)
 
-abbrev pub stored_at : Contents → List ℕ → Option Mark
+abbrev pub stored_at : Contents → List ℕ → Option StoredQuery
 stored_at c name = option_and_then (λ (entry : TableEntry). entry.stored) (table_named c name)
 
 abbrev pub show_fresh : Contents → List ℕ → Turn

@@ -16,13 +16,13 @@ ghost use Rattle.perm_catalog.specs.Contents.{Contents};
 ghost use Rattle.perm_catalog.specs.Sound.{IsSound};
 ghost use Rattle.perm_catalog.specs.Stored.{IsFresh};
 ghost use Rattle.perm_catalog.specs.declared.column.Column.{Column};
-ghost use Rattle.perm_catalog.specs.declared.entries.Mark.{Mark};
+ghost use Rattle.perm_catalog.specs.declared.entries.StoredQuery.{StoredQuery};
 ghost use Rattle.perm_catalog.specs.declared.entries.TableEntry.{TableEntry};
 ghost use Rattle.perm_values.specs.Marked.{unmarked};
 ghost use Rattle.sql_tree.specs.Regular.{RegularStatement};
 ghost use Rattle.sql_tree.specs.declared.statement.Statement.{Statement};
 ghost use Rattle.delete_impact.specs.vanishing.Doomed.{doomed_on};
-ghost use Rattle.statement_meaning.specs.laws.Freshened.{IsRead, IsStill, IsUnread, MeetsStored, StoresFresh, StoresNothing, filled, written};
+ghost use Rattle.statement_meaning.specs.laws.Freshened.{IsStoredRead, IsStill, IsUnread, MeetsStored, StoresFresh, StoresNothing, filled, written};
 ghost use Rattle.statement_meaning.specs.laws.Kept.{rows_left};
 ghost use Rattle.statement_meaning.specs.laws.Leaving.{Leaves};
 ghost use Rattle.statement_meaning.specs.laws.Sounder.{AddsSoundly, KeepsSound};
@@ -30,7 +30,7 @@ ghost use Rattle.statement_meaning.specs.Asking.{asks};
 ghost use Rattle.statement_meaning.specs.Ready.{IsReady};
 ghost use Rattle.statement_meaning.specs.Turns.{Accepted, show_fresh};
 
-use stored_provenance::a_new_mark_is_sound;
+use stored_provenance::a_new_stored_query_is_sound;
 
 mod answers;
 
@@ -60,7 +60,7 @@ pub fn statements_keep_catalogs_sound()
     ensures { (c : Contents) → IsSound c → (at : ℕ) (statement : Resolved)
         → IsReady c statement → AddsSoundly c statement → KeepsSound (asks c at statement) }
 {
-    a_new_mark_is_sound();
+    a_new_stored_query_is_sound();
 }
 
 /// Over a sound catalog, a statement that breaks no rule adds columns of a table, rows of the kinds of their
@@ -81,17 +81,17 @@ pub fn no_rule_wants_a_number()
 /// writes or drops one, it isn't fresh then; and what isn't fresh never is again.
 pub fn fresh_tables_stay_fresh()
     ensures kept { (c : Contents) (at : ℕ) (statement : Resolved)
-        (name : List ℕ) (table : TableEntry) (stored : Mark)
+        (name : List ℕ) (table : TableEntry) (stored : StoredQuery)
         → MeetsStored c statement name table stored → IsFresh c stored
         → IfSome (written statement) (IsUnread c stored)
         → Leaves (λ d. IsFresh d stored) (asks c at statement) }
     ensures ended { (c : Contents) (at : ℕ) (statement : Resolved)
-        (name : List ℕ) (table : TableEntry) (stored : Mark)
+        (name : List ℕ) (table : TableEntry) (stored : StoredQuery)
         → MeetsStored c statement name table stored
-        → (changed : List ℕ) → written statement ≡ Some changed → IsRead c stored changed
+        → (changed : List ℕ) → written statement ≡ Some changed → IsStoredRead c stored changed
         → Leaves (λ d. IsFresh d stored → ⊥) (asks c at statement) }
     ensures for_good { (c : Contents) (at : ℕ) (statement : Resolved)
-        (name : List ℕ) (table : TableEntry) (stored : Mark)
+        (name : List ℕ) (table : TableEntry) (stored : StoredQuery)
         → MeetsStored c statement name table stored
         → Leaves (λ d. IsFresh d stored → IsFresh c stored) (asks c at statement) }
 {
@@ -110,7 +110,7 @@ pub fn a_stored_query_is_fresh()
     ensures shown { (name : List ℕ) (query : Query) (c : Contents) → StoresFresh name query c
         → show_fresh c name ≡ Accepted (codes "fresh\n") c }
 {
-    a_new_mark_is_sound();
+    a_new_stored_query_is_sound();
 }
 
 /// A table to which a statement adds rows, or from which it takes some, stores no provenance then, also where no

@@ -11,7 +11,7 @@ use Rattle.bag_algebra.specs.declared.query.Query.{Query}
 use Rattle.perm_catalog.specs.Contents.{Contents}
 use Rattle.perm_catalog.specs.Lookups.{entry_of_id}
 use Rattle.perm_catalog.specs.Stored.{each_once, kept_read, kept_of}
-use Rattle.perm_catalog.specs.declared.entries.Kept.{Kept}
+use Rattle.perm_catalog.specs.declared.entries.SourceVersion.{SourceVersion}
 use Rattle.perm_catalog.specs.declared.entries.TableEntry.{TableEntry}
 use Rattle.stored_provenance.proofs.Found.{found-passes}
 use Rattle.stored_provenance.specs.Reads.{has_id, kept_now, listed, with_reads}
@@ -51,13 +51,13 @@ module _ {X Y : Type 0} (f : X → List Y) (here there apart : X → Bool)
 
 -- ---- identities of what is kept
 
-has_id-append : (id : ℕ) (xs ys : List Kept) → has_id id (xs ++ ys) ≡ (has_id id xs || has_id id ys)
+has_id-append : (id : ℕ) (xs ys : List SourceVersion) → has_id id (xs ++ ys) ≡ (has_id id xs || has_id id ys)
 has_id-append id [] ys = refl
 has_id-append id (x ∷ xs) ys = ap (λ b. nat_eq x.id id || b) (has_id-append id xs ys) ∙ sym (or_associates (nat_eq x.id id) (has_id id xs) (has_id id ys))
 
 module _ (c : Contents) where
   read-now-by : (read : TableRead) (o : Option (List ℕ × TableEntry)) → entry_of_id c read.id ≡ o →
-      option_map_or {U = List Kept} (λ (e : List ℕ × TableEntry). record { table = e.0; id = e.1.id; version = e.1.version } ∷ []) o []
+      option_map_or {U = List SourceVersion} (λ (e : List ℕ × TableEntry). record { table = e.0; id = e.1.id; version = e.1.version } ∷ []) o []
       ≡ listed (option_map (λ (e : List ℕ × TableEntry). record { table = e.0; id = read.id; version = e.1.version }) o)
   read-now-by read None is = refl
   read-now-by read (Some e) is = ap (λ id. record { table = e.0; id = id; version = e.1.version } ∷ []) (entry-id c read.id e is)
@@ -65,11 +65,11 @@ module _ (c : Contents) where
   read-now : (read : TableRead) → kept_read c read ≡ listed (kept_now c read.id)
   read-now read = read-now-by read (entry_of_id c read.id) refl
 
-  module _ (read : TableRead) (kept : List Kept) where
+  module _ (read : TableRead) (kept : List SourceVersion) where
     abbrev other : TableRead → Bool
     other r = not (nat_eq r.id read.id)
 
-    abbrev unkept : List Kept → TableRead → Bool
+    abbrev unkept : List SourceVersion → TableRead → Bool
     unkept k r = not (has_id r.id k)
 
     same-id : (r : TableRead) → other r ≡ false → r.id ≡ read.id
@@ -87,7 +87,7 @@ module _ (c : Contents) where
 
     gone-by : (r : TableRead) (o : Option (List ℕ × TableEntry)) → entry_of_id c read.id ≡ o → other r ≡ false →
         (unkept (kept ++ listed (option_map (λ (e : List ℕ × TableEntry). record { table = e.0; id = read.id; version = e.1.version }) o)) r ≡ false)
-        ⊎ (option_map_or {U = List Kept} (λ (e : List ℕ × TableEntry). record { table = e.0; id = e.1.id; version = e.1.version } ∷ []) o [] ≡ [])
+        ⊎ (option_map_or {U = List SourceVersion} (λ (e : List ℕ × TableEntry). record { table = e.0; id = e.1.id; version = e.1.version } ∷ []) o [] ≡ [])
     gone-by r None is same = inr refl
     gone-by r (Some e) is same =
         inl (ap not (has_id-append r.id kept (record { table = e.0; id = read.id; version = e.1.version } ∷ [])
@@ -105,7 +105,7 @@ module _ (c : Contents) where
     gone-old has r same = inl (ap (λ id. not (has_id id kept)) (same-id r same) ∙ ap not has)
 
     all-by : (reads : List TableRead) (b : Bool) → has_id read.id kept ≡ b →
-        ((k : List Kept) → with_reads c reads k ≡ k ++ flat_map (kept_read c) (filter (unkept k) (each_once reads))) →
+        ((k : List SourceVersion) → with_reads c reads k ≡ k ++ flat_map (kept_read c) (filter (unkept k) (each_once reads))) →
         with_reads c reads (cond b kept (kept ++ listed (kept_now c read.id)))
         ≡ kept ++ flat_map (kept_read c) (cond (not b) (read ∷ filter (unkept kept) (filter other (each_once reads))) (filter (unkept kept) (filter other (each_once reads))))
     all-by reads true has more =
@@ -117,7 +117,7 @@ module _ (c : Contents) where
         ∙ (λ i. kept ++ (sym (read-now read) i
         ++ passed-over (kept_read c) (unkept (kept ++ listed (kept_now c read.id))) (unkept kept) other alike-new gone-new (each_once reads) i))
 
-  pub reads-kept : (reads : List TableRead) (kept : List Kept) →
+  pub reads-kept : (reads : List TableRead) (kept : List SourceVersion) →
       with_reads c reads kept ≡ kept ++ flat_map (kept_read c) (filter (λ (r : TableRead). not (has_id r.id kept)) (each_once reads))
   reads-kept [] kept = sym (append-nil kept)
   reads-kept (read ∷ reads) kept = all-by read kept reads (has_id read.id kept) refl (reads-kept reads)

@@ -22,10 +22,10 @@ use Rattle.perm_catalog.specs.Changes.{table_named}
 use Rattle.perm_catalog.specs.Columns.{column_kinds}
 use Rattle.perm_catalog.specs.Contents.{Contents}
 use Rattle.perm_catalog.specs.Lookups.{entry_of_id}
-use Rattle.perm_catalog.specs.Stored.{is_unchanged, IsFresh, IsKeptTable, IsDrawn, IsSoundMark}
+use Rattle.perm_catalog.specs.Stored.{is_unchanged, IsFresh, IsKeptTable, IsDrawn, IsSoundStored}
 use Rattle.perm_catalog.specs.declared.column.Column.{Column}
-use Rattle.perm_catalog.specs.declared.entries.Kept.{Kept}
-use Rattle.perm_catalog.specs.declared.entries.Mark.{Mark}
+use Rattle.perm_catalog.specs.declared.entries.SourceVersion.{SourceVersion}
+use Rattle.perm_catalog.specs.declared.entries.StoredQuery.{StoredQuery}
 use Rattle.perm_catalog.specs.declared.entries.TableEntry.{TableEntry}
 use Rattle.stored_provenance.proofs.Found.{named-found, found-passes, found-named}
 
@@ -69,7 +69,7 @@ module _ (c : Contents) (apart : AreApart c) (id : ℕ) where
       let table : there.entry.1 ≡ held.table = same_Some there.entry.1 held.table (sym other.is ∙ ap (table_named c) name ∙ held.is) in
       there.found ∙ (λ i. Some (name i, table i))
 
-module _ (c : Contents) (apart : AreApart c) (kept : Kept) where
+module _ (c : Contents) (apart : AreApart c) (kept : SourceVersion) where
   unchanged-by : (o : Option (List ℕ × TableEntry)) → entry_of_id c kept.id ≡ o →
       option_map_or (λ (e : List ℕ × TableEntry). nat_eq e.1.version kept.version) o false ≡ true → IsHere c kept.id kept.version
   unfolding entry-has
@@ -112,14 +112,14 @@ pub record Goes (c d : Contents) : Type 0 where
   pub here : (id version : ℕ) → id < c.next → version < c.next → IsHere d id version → IsHere c id version × (rows_in d.rows id ≡ rows_in c.rows id)
   pub was : (name : List ℕ) (t : TableEntry) → table_named d name ≡ Some t → t.id < c.next → Was c t
 
-module _ (c d : Contents) (before : AreApart c) (after : AreApart d) (goes : Goes c d) (columns : List Column) (rows : Bag) (mark : Mark)
-    (sound : IsSoundMark c columns rows mark) where
+module _ (c d : Contents) (before : AreApart c) (after : AreApart d) (goes : Goes c d) (columns : List Column) (rows : Bag) (mark : StoredQuery)
+    (sound : IsSoundStored c columns rows mark) where
   drawn-still : All (IsDrawn d) mark.kept
   drawn-still k kept low =
       let drawn = sound.drawn k kept low in
       record { id = let e = drawn.id in let f = goes.later in omega arith; version = let e = drawn.version in let f = goes.later in omega arith }
 
-  kept-drawn : (kept : Kept) → Contains mark.kept kept → IsDrawn c kept
+  kept-drawn : (kept : SourceVersion) → Contains mark.kept kept → IsDrawn c kept
   kept-drawn kept there = subst (IsDrawn c) there.2 (sound.drawn there.0 kept there.1)
 
   reads-still : (id : ℕ) (kinds : List Kind) → IsKeptTable c mark.kept id kinds → IsKeptTable d mark.kept id kinds
@@ -132,10 +132,10 @@ module _ (c d : Contents) (before : AreApart c) (after : AreApart d) (goes : Goe
         sym was.kinds ∙ read.kinds_are was.held.name was.held.table was.held.is (was.held.id_is ∙ same);
   }
 
-  unchanged-before : IsFresh d mark → (kept : Kept) → Contains mark.kept kept → IsHere c kept.id kept.version × (rows_in d.rows kept.id ≡ rows_in c.rows kept.id)
+  unchanged-before : IsFresh d mark → (kept : SourceVersion) → Contains mark.kept kept → IsHere c kept.id kept.version × (rows_in d.rows kept.id ≡ rows_in c.rows kept.id)
   unchanged-before fresh kept there =
       let drawn = kept-drawn kept there in
-      let is : is_unchanged d kept ≡ true = subst (λ (k : Kept). is_unchanged d k ≡ true) there.2 (none-fails (is_unchanged d) mark.kept fresh there.0 kept there.1) in
+      let is : is_unchanged d kept ≡ true = subst (λ (k : SourceVersion). is_unchanged d k ≡ true) there.2 (none-fails (is_unchanged d) mark.kept fresh there.0 kept there.1) in
       goes.here kept.id kept.version drawn.id drawn.version (unchanged-here d after kept is)
 
   -- what is fresh afterwards was fresh before
@@ -158,7 +158,7 @@ module _ (c d : Contents) (before : AreApart c) (after : AreApart d) (goes : Goe
       (denote-equal_tables mark.query (rows_in d.rows) (rows_in c.rows) []
       (each_table-kept (IsKeptTable c mark.kept) (λ id kinds. rows_in d.rows id ≡ rows_in c.rows id) (rows-same fresh) mark.query sound.reads))
 
-  pub mark-goes : IsSoundMark d columns rows mark
+  pub mark-goes : IsSoundStored d columns rows mark
   mark-goes = record {
     input = sound.input;
     asks = sound.asks;
@@ -172,6 +172,6 @@ module _ (c d : Contents) (before : AreApart c) (after : AreApart d) (goes : Goe
 
 -- the same of a table that may store none
 module _ (c d : Contents) (before : AreApart c) (after : AreApart d) (goes : Goes c d) (columns : List Column) (rows : Bag) where
-  pub stored-goes : (stored : Option Mark) → IfSome stored (IsSoundMark c columns rows) → IfSome stored (IsSoundMark d columns rows)
+  pub stored-goes : (stored : Option StoredQuery) → IfSome stored (IsSoundStored c columns rows) → IfSome stored (IsSoundStored d columns rows)
   stored-goes None sound = tt
   stored-goes (Some mark) sound = mark-goes c d before after goes columns rows mark sound

@@ -24,15 +24,15 @@ use Rattle.perm_catalog.specs.Columns.{column_kinds}
 use Rattle.perm_catalog.specs.Contents.{Contents}
 use Rattle.perm_catalog.specs.Lookups.{entry_of_id}
 use Rattle.perm_catalog.specs.Sound.{IsSound}
-use Rattle.perm_catalog.specs.Stored.{is_unchanged, IsFresh, IsKeptTable, IsDrawn, IsSoundMark, each_once, kept_read, kept_of, mark_of}
+use Rattle.perm_catalog.specs.Stored.{is_unchanged, IsFresh, IsKeptTable, IsDrawn, IsSoundStored, each_once, kept_read, kept_of, mark_of}
 use Rattle.perm_catalog.specs.declared.column.Column.{Column}
-use Rattle.perm_catalog.specs.declared.entries.Kept.{Kept}
+use Rattle.perm_catalog.specs.declared.entries.SourceVersion.{SourceVersion}
 use Rattle.perm_catalog.specs.declared.entries.TableEntry.{TableEntry}
 use Rattle.stored_provenance.proofs.Found.{found-named}
 use Rattle.stored_provenance.proofs.Marks.{has-entry, all-pass}
 use Rattle.stored_provenance.proofs.Soundness.{are-apart}
 use Rattle.query_laws.specs.replaced.OverQueries.{ReadsAs}
-use Rattle.stored_provenance.specs.Held.{IsHeldTable}
+use Rattle.perm_catalog.specs.Held.{IsHeldTable}
 use Rattle.stored_provenance.proofs.KeptOnce.{entry-id}
 
 -- ---- lists
@@ -92,7 +92,7 @@ in-once (first ∷ reads) read there = by (in-once reads read) there.0 there.1 t
 
 -- ---- what is kept of a table
 
-abbrev as_kept : List ℕ × TableEntry → Kept
+abbrev as_kept : List ℕ × TableEntry → SourceVersion
 as_kept e = record { table = e.0; id = e.1.id; version = e.1.version }
 
 module _ (c : Contents) (sound : IsSound c) where
@@ -116,7 +116,7 @@ module _ (c : Contents) (sound : IsSound c) where
   same-table : (id : ℕ) (kinds : List Kind) (held : IsHeldTable c id kinds) (name : List ℕ) (table : TableEntry) → table_named c name ≡ Some table →
       table.id ≡ id → held.table ≡ table
   same-table id kinds held name table named same =
-      let name_is : held.name ≡ name = sound.identities held.name name held.table table held.named named (held.same ∙ sym same) in
+      let name_is : held.name ≡ name = sound.identities held.name name held.table table held.named named (held.id_is ∙ sym same) in
       same_Some held.table table (sym held.named ∙ ap (table_named c) name_is ∙ named)
 
   kept-table : (reads : List TableRead) (id : ℕ) (kinds : List Kind) → Contains reads (record { id = id; kinds = kinds }) → IsHeldTable c id kinds →
@@ -124,7 +124,7 @@ module _ (c : Contents) (sound : IsSound c) where
   kept-table reads id kinds there held =
       let once = in-once reads (record { id = id; kinds = kinds }) there in
       let found : entry_of_id c once.read.id ≡ Some (held.name, held.table) =
-      has-entry c (are-apart c sound) once.read.id (record { name = held.name; table = held.table; is = held.named; id_is = held.same ∙ sym once.same }) in
+      has-entry c (are-apart c sound) once.read.id (record { name = held.name; table = held.table; is = held.named; id_is = held.id_is ∙ sym once.same }) in
       let kept : kept_read c once.read ≡ as_kept (held.name, held.table) ∷ [] =
       ap (λ o. option_map_or (λ (e : List ℕ × TableEntry). as_kept e ∷ []) o []) found in
       record {
@@ -132,7 +132,7 @@ module _ (c : Contents) (sound : IsSound c) where
           table = as_kept (held.name, held.table);
           there = in-flat (kept_read c) (each_once reads) once.read (as_kept (held.name, held.table)) once.there
               (subst (λ l. Contains l (as_kept (held.name, held.table))) (sym kept) (in-one (as_kept (held.name, held.table))));
-          same = held.same;
+          same = held.id_is;
         };
         kinds_are = λ name table named same.
             ap (λ (t : TableEntry). column_kinds t.columns) (sym (same-table id kinds held name table named same)) ∙ held.kinds_are;
@@ -152,7 +152,7 @@ module _ (c : Contents) (sound : IsSound c) where
 
   pub new-sound : (columns : List Column) (rows : Bag) (input : Query) (places : List ℕ) → WellFormed [] (ProvOf input) →
       EachTable (IsHeldTable c) (ProvOf input) → kinds_of (ProvOf input) ≡ column_kinds columns → PlacesWithin (length columns) places →
-      SameRows (meaning (ProvOf input) (rows_in c.rows) []) (Good rows) → IsSoundMark c columns rows (mark_of c (ProvOf input) places)
+      SameRows (meaning (ProvOf input) (rows_in c.rows) []) (Good rows) → IsSoundStored c columns rows (mark_of c (ProvOf input) places)
   new-sound columns rows input places closed held kinds within same = record {
     input = input;
     asks = refl;

@@ -8,10 +8,10 @@ use Rattle.bag_algebra.specs.built.Patterns.{BaseOf, FilterOf, ProjectOf, JoinOf
 use Rattle.bag_algebra.specs.declared.query.Query.{Query, Row_of-Sublink, more_of-Sublink, end_of-Sublink, items-the_row-Sublink}
 use Rattle.bag_algebra.specs.declared.query.Query.TheVariants.{Table, Single}
 use Rattle.perm_catalog.specs.Contents.{Contents}
-use Rattle.perm_catalog.specs.declared.entries.Kept.{Kept}
+use Rattle.perm_catalog.specs.declared.entries.SourceVersion.{SourceVersion}
 use Rattle.stored_provenance.specs.Reads.{with_read, with_reads, inputs_read, sublinks_read}
 
-pub with_reads-append : (c : Contents) (rs ss : List TableRead) (kept : List Kept) → with_reads c (rs ++ ss) kept ≡ with_reads c ss (with_reads c rs kept)
+pub with_reads-append : (c : Contents) (rs ss : List TableRead) (kept : List SourceVersion) → with_reads c (rs ++ ss) kept ≡ with_reads c ss (with_reads c rs kept)
 with_reads-append c [] ss kept = refl
 with_reads-append c (r ∷ rs) ss kept = with_reads-append c rs ss (with_read c r.id kept)
 

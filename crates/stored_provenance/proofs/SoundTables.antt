@@ -19,9 +19,9 @@ use Rattle.perm_catalog.specs.Columns.{column_kinds}
 use Rattle.perm_catalog.specs.Contents.{Contents}
 use Rattle.perm_catalog.specs.Lookups.{uses_name, first_user}
 use Rattle.perm_catalog.specs.Sound.{IsSound, IsSoundTable, IsNewTable}
-use Rattle.perm_catalog.specs.Stored.{IsSoundMark}
+use Rattle.perm_catalog.specs.Stored.{IsSoundStored}
 use Rattle.perm_catalog.specs.declared.column.Column.{Column}
-use Rattle.perm_catalog.specs.declared.entries.Mark.{Mark}
+use Rattle.perm_catalog.specs.declared.entries.StoredQuery.{StoredQuery}
 use Rattle.perm_catalog.specs.declared.entries.TableEntry.{TableEntry}
 use Rattle.perm_catalog.specs.declared.entries.ViewEntry.{ViewEntry}
 use Rattle.stored_provenance.proofs.HeldRows.{get-put, get-put_apart, get-removed_apart, fits-append, fits-unmarked}
@@ -31,8 +31,8 @@ use Rattle.stored_provenance.proofs.Soundness.{are-apart, kept-table, kept-view,
 
 -- ---- a new table
 
-module _ (c : Contents) (name : List ℕ) (columns : List Column) (rows : Bag) (stored : Option Mark) (s : IsSound c)
-    (free : is_free c name ≡ true) (new : IsNewTable columns rows) (marked : IfSome stored (IsSoundMark c columns rows)) where
+module _ (c : Contents) (name : List ℕ) (columns : List Column) (rows : Bag) (stored : Option StoredQuery) (s : IsSound c)
+    (free : is_free c name ≡ true) (new : IsNewTable columns rows) (marked : IfSome stored (IsSoundStored c columns rows)) where
   abbrev made : TableEntry
   made = record { id = c.next; version = c.next; columns = columns; stored = stored }
 

@@ -1,3 +1,2 @@
 pub mod Freshness
-pub mod Held
 pub mod Reads

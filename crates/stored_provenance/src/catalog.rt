@@ -8,9 +8,9 @@ ghost use Rattle.perm_catalog.specs.Columns.{column_kinds};
 ghost use Rattle.perm_catalog.specs.Contents.{Contents};
 ghost use Rattle.perm_catalog.specs.Lookups.{first_user};
 ghost use Rattle.perm_catalog.specs.Sound.{IsSound, IsSoundView, IsNewTable};
-ghost use Rattle.perm_catalog.specs.Stored.{IsSoundMark};
+ghost use Rattle.perm_catalog.specs.Stored.{IsSoundStored};
 ghost use Rattle.perm_catalog.specs.declared.column.Column.{Column};
-ghost use Rattle.perm_catalog.specs.declared.entries.Mark.{Mark};
+ghost use Rattle.perm_catalog.specs.declared.entries.StoredQuery.{StoredQuery};
 ghost use Rattle.perm_catalog.specs.declared.entries.TableEntry.{TableEntry as Table};
 ghost use Rattle.perm_catalog.specs.declared.entries.ViewEntry.{ViewEntry as View};
 
@@ -19,8 +19,8 @@ ghost use Rattle.perm_catalog.specs.declared.entries.ViewEntry.{ViewEntry as Vie
 pub fn catalogs_stay_sound()
     ensures new { (next : ℕ) → IsSound (nothing_held next) }
     ensures create { (c : Contents) (name : List ℕ) (columns : List Column) (rows : Bag)
-        (stored : Option Mark) → IsSound c → is_free c name ≡ true → IsNewTable columns rows
-        → IfSome stored (IsSoundMark c columns rows)
+        (stored : Option StoredQuery) → IsSound c → is_free c name ≡ true → IsNewTable columns rows
+        → IfSome stored (IsSoundStored c columns rows)
         → IsSound (with_table c name columns rows stored) }
     ensures insert_rows { (c : Contents) (name : List ℕ) (table : Table) (rows : Bag)
         → IsSound c → table_named c name ≡ Some table → bag_fits rows (column_kinds table.columns) ≡ true

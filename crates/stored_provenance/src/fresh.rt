@@ -3,10 +3,10 @@ ghost use Rattle.std.specs.Prelude.{◌≡◌, IfOk, not};
 ghost use Rattle.std.specs.List.{find};
 ghost use Rattle.std.specs.Option.{option_copied};
 ghost use Rattle.perm_catalog.specs.Stored.{is_unchanged};
-ghost use Rattle.perm_catalog.specs.declared.entries.Kept.{Kept as SeenKept};
+ghost use Rattle.perm_catalog.specs.declared.entries.SourceVersion.{SourceVersion as SeenKept};
 ghost use Rattle.stored_provenance.specs.Freshness.{freshness, state_of};
 
-use perm_catalog::{Catalog, Kept};
+use perm_catalog::{Catalog, SourceVersion};
 use perm_values::{Chars, Copyable, NoMemory};
 use std::alloc::Global;
 
@@ -40,7 +40,7 @@ pub fn freshness(
 }
 
 /// The first table that isn't what it was when it was read.
-fn first_changed<'k>(catalog: &Catalog, kept: &'k [Kept]) -> Option<&'k Kept>
+fn first_changed<'k>(catalog: &Catalog, kept: &'k [SourceVersion]) -> Option<&'k SourceVersion>
     ensures { option_copied result
         ≡ find (λ (table : SeenKept). not (is_unchanged catalog.now table)) kept.now }
 {
@@ -53,7 +53,7 @@ fn first_changed<'k>(catalog: &Catalog, kept: &'k [Kept]) -> Option<&'k Kept>
 }
 
 /// Whether a table of the kept identity is there, with the kept version.
-fn is_unchanged(catalog: &Catalog, kept: &Kept) -> bool
+fn is_unchanged(catalog: &Catalog, kept: &SourceVersion) -> bool
     ensures { result ≡ is_unchanged catalog.now kept.now }
 {
     match catalog.version_of(kept.id) {
@@ -62,7 +62,7 @@ fn is_unchanged(catalog: &Catalog, kept: &Kept) -> bool
     }
 }
 
-fn state_of(alloc: Global, changed: Option<&Kept>) -> Result<FreshState, NoMemory>
+fn state_of(alloc: Global, changed: Option<&SourceVersion>) -> Result<FreshState, NoMemory>
     ensures { IfOk result (λ state. state ≡ state_of (option_copied changed.entry)) }
 {
     match changed {

@@ -9,7 +9,7 @@ ghost use Rattle.perm_catalog.specs.Stored.{kept_of};
 ghost use Rattle.stored_provenance.specs.Reads.{has_id, kept_now, with_read, with_reads, inputs_read, sublinks_read};
 
 use bag_algebra::{Inputs, Query, Sublink};
-use perm_catalog::{Catalog, Kept};
+use perm_catalog::{Catalog, SourceVersion};
 use perm_values::{Copyable, List, NoMemory};
 use std::alloc::Global;
 
@@ -19,7 +19,7 @@ pub(crate) fn kept_of(
     alloc: Global,
     catalog: &Catalog,
     query: &Query,
-) -> Result<List<Kept>, NoMemory>
+) -> Result<List<SourceVersion>, NoMemory>
     ensures { IfOk result (λ kept. kept ≡ kept_of catalog.now query.now) }
 {
     let mut kept = List::new(alloc);
@@ -33,7 +33,7 @@ fn keep_reads(
     alloc: Global,
     catalog: &Catalog,
     query: &Query,
-    kept: &mut List<Kept>,
+    kept: &mut List<SourceVersion>,
 ) -> Result<(), NoMemory>
     ensures { OnOk result (kept.new ≡ with_reads catalog.now (tables_read query.now) kept.old) }
 {
@@ -49,7 +49,7 @@ fn keep_inputs(
     alloc: Global,
     catalog: &Catalog,
     inputs: Inputs<'_>,
-    kept: &mut List<Kept>,
+    kept: &mut List<SourceVersion>,
 ) -> Result<(), NoMemory>
     ensures { OnOk result (kept.new ≡ with_reads catalog.now (inputs_read (given inputs.entry)) kept.old) }
 {
@@ -68,7 +68,7 @@ fn keep_sublinks(
     alloc: Global,
     catalog: &Catalog,
     subs: &[Sublink],
-    kept: &mut List<Kept>,
+    kept: &mut List<SourceVersion>,
 ) -> Result<(), NoMemory>
     ensures { OnOk result (kept.new ≡ with_reads catalog.now (sublinks_read subs.now) kept.old) }
 {
@@ -83,7 +83,7 @@ fn keep_read(
     alloc: Global,
     catalog: &Catalog,
     id: u64,
-    kept: &mut List<Kept>,
+    kept: &mut List<SourceVersion>,
 ) -> Result<(), NoMemory>
     ensures { OnOk result (kept.new ≡ with_read catalog.now id kept.old) }
 {
@@ -96,20 +96,20 @@ fn keep_read(
     Ok(())
 }
 
-fn has_id(kept: &[Kept], id: u64) -> bool
+fn has_id(kept: &[SourceVersion], id: u64) -> bool
     ensures { result ≡ has_id id kept.now }
 {
     kept.iter().any(|table| table.id == id)
 }
 
 /// The table of this identity as it stands now, if there is one.
-fn kept_now(alloc: Global, catalog: &Catalog, id: u64) -> Result<Option<Kept>, NoMemory>
+fn kept_now(alloc: Global, catalog: &Catalog, id: u64) -> Result<Option<SourceVersion>, NoMemory>
     ensures { IfOk result (λ kept. kept ≡ kept_now catalog.now id) }
 {
     let (Some(name), Some(version)) = (catalog.name_of(id), catalog.version_of(id)) else {
         return Ok(None);
     };
-    Ok(Some(Kept {
+    Ok(Some(SourceVersion {
         table: name.copy(alloc)?,
         id,
         version,

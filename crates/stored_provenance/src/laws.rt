@@ -16,22 +16,22 @@ ghost use Rattle.perm_catalog.specs.Changes.{table_named};
 ghost use Rattle.perm_catalog.specs.Columns.{column_kinds};
 ghost use Rattle.perm_catalog.specs.Contents.{Contents};
 ghost use Rattle.perm_catalog.specs.Sound.{IsSound};
-ghost use Rattle.perm_catalog.specs.Stored.{IsFresh, IsSoundMark, mark_of};
+ghost use Rattle.perm_catalog.specs.Stored.{IsFresh, IsSoundStored, mark_of};
 ghost use Rattle.perm_catalog.specs.declared.column.Column.{Column};
-ghost use Rattle.perm_catalog.specs.declared.entries.Mark.{Mark};
+ghost use Rattle.perm_catalog.specs.declared.entries.StoredQuery.{StoredQuery};
 ghost use Rattle.perm_catalog.specs.declared.entries.TableEntry.{TableEntry as Table};
 ghost use Rattle.query_laws.specs.replaced.OverQueries.{over_queries, standing};
-ghost use Rattle.stored_provenance.specs.Held.{IsHeldTable};
+ghost use Rattle.perm_catalog.specs.Held.{IsHeldTable};
 
 /// Over a sound catalog, a table made of a query with PROVENANCE, which reads no outer row and none but the
 /// catalog's tables, of the table's kinds, whose rows are the query's, remembers what is sound; and it is
 /// fresh.
-pub fn a_new_mark_is_sound()
+pub fn a_new_stored_query_is_sound()
     ensures { (c : Contents) (columns : List Column) (rows : Bag) (input : Query) (places : List ℕ) →
         IsSound c → WellFormed [] (ProvOf input) → EachTable (IsHeldTable c) (ProvOf input) →
         kinds_of (ProvOf input) ≡ column_kinds columns → PlacesWithin (length columns) places →
         SameRows (meaning (ProvOf input) (rows_in c.rows) []) (Good rows) →
-        IsSoundMark c columns rows (mark_of c (ProvOf input) places)
+        IsSoundStored c columns rows (mark_of c (ProvOf input) places)
         × IsFresh c (mark_of c (ProvOf input) places) }
 {}
 
@@ -39,7 +39,7 @@ pub fn a_new_mark_is_sound()
 /// query that it stores: on the catalog's tables, under all outer rows, the two have the same set of faults,
 /// or the same bag of rows, and each row has the same witness lists.
 pub fn a_fresh_table_stands_for_its_query()
-    ensures { (c : Contents) (name : List ℕ) (table : Table) (stored : Mark) (q : Query) (env : List Row) →
+    ensures { (c : Contents) (name : List ℕ) (table : Table) (stored : StoredQuery) (q : Query) (env : List Row) →
         IsSound c → table_named c name ≡ Some table → table.stored ≡ Some stored → IsFresh c stored →
         EachTable (IsHeldTable c) q →
         SameMeaning (denote q (rows_in c.rows) env)

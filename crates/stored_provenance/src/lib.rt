@@ -9,5 +9,5 @@ mod storing;
 
 pub use catalog::catalogs_stay_sound;
 pub use fresh::{FreshState, freshness};
-pub use laws::{a_fresh_table_stands_for_its_query, a_new_mark_is_sound};
+pub use laws::{a_fresh_table_stands_for_its_query, a_new_stored_query_is_sound};
 pub use storing::store;

@@ -7,7 +7,7 @@ ghost use Rattle.perm_catalog.specs.declared.catalog.CatalogRefusal.{CatalogRefu
 
 use crate::kept::kept_of;
 use bag_algebra::Query;
-use perm_catalog::{Catalog, CatalogRefusal, Column, Mark};
+use perm_catalog::{Catalog, CatalogRefusal, Column, StoredQuery};
 use perm_values::{Chars, List, NoMemory, Rows};
 use std::alloc::Global;
 
@@ -35,7 +35,7 @@ pub fn store(
     }
     match kept_of(alloc, catalog, &query) {
         Ok(kept) => {
-            let stored = Mark {
+            let stored = StoredQuery {
                 places,
                 query,
                 kept,

@@ -8,7 +8,7 @@ use Rattle.bag_algebra.specs.built.Patterns.{ProvOf}
 use Rattle.bag_algebra.specs.declared.query.Answer.{Answer}
 use Rattle.bag_algebra.specs.declared.query.Query.{Query}
 use Rattle.perm_catalog.specs.Contents.{Contents}
-use Rattle.perm_catalog.specs.declared.entries.Mark.{Mark}
+use Rattle.perm_catalog.specs.declared.entries.StoredQuery.{StoredQuery}
 use Rattle.perm_catalog.specs.declared.entries.TableEntry.{TableEntry}
 use Rattle.name_meaning.specs.declared.answer.Resolved.TheVariants as r
 use Rattle.statement_meaning.specs.Asking.{Settled, asks}
@@ -36,7 +36,7 @@ unfolding digits
 stored_plainly = stored-as [] rows_s 0 (codes "q") (stored (codes "c") kind.Integer ∷ []) (answering c_of_s (codes "c" ∷ []) []) None
 
 -- what the table remembers of SELECT PROVENANCE c FROM s
-abbrev mark_s : Mark
+abbrev mark_s : StoredQuery
 mark_s = record { places = 1 ∷ []; query = ProvOf c_of_s; kept = record { table = codes "s"; id = 2; version = 2 } ∷ [] }
 
 abbrev table_p : TableEntry

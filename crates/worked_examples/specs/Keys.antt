@@ -17,7 +17,7 @@ use Rattle.query_facts.specs.reached.Reach.{reach_of}
 use Rattle.row_joins.specs.Equated.{equated, pair_of}
 use Rattle.row_joins.specs.Guards.{guard_holds, keyed_columns}
 use Rattle.row_joins.specs.Hashed.{met_rows, on_pair}
-use Rattle.row_joins.specs.declared.pairs.Reading.TheVariants.{Around}
+use Rattle.row_joins.specs.declared.pairs.PairLayout.TheVariants.{Around}
 use Rattle.row_nodes.specs.Keeping.{keyed_at}
 use Rattle.worked_examples.specs.Queries.{and_also, col, compared, isnt, item, number, num, one, reckoned, s, two}
 

@@ -27,7 +27,7 @@ use Rattle.sql_tree.specs.declared.source.ScopeMark.{ScopeMark}
 use Rattle.contribution.specs.Conjunctions.{always}
 use Rattle.name_meaning.proofs.Equations.{token, fromsource-inner}
 use Rattle.name_meaning.proofs.Opened.{core-is, opened_from_item}
-use Rattle.name_meaning.specs.Cores.{BodyPart, Clauses, before_list, clause_breaks, core_clauses, core_over, core_seen, core_unlooked, group_break, group_scope, has_some, list_columns, optional_built, settle_known, word_breaks}
+use Rattle.name_meaning.specs.Cores.{BodyPart, ClausesMeant, before_list, clause_breaks, core_clauses, core_over, core_seen, core_unlooked, group_break, group_scope, has_some, list_columns, optional_built, settle_known, word_breaks}
 use Rattle.name_meaning.specs.Froms.{FromItemPart, FromMeant, FromPart, ItemMeant, JoinPart, SourcePart, applied, beside_from, both_known, first_item, from_all, in_clause, in_from, in_on, item_meant, join_all, join_item, join_kind, joined_item, label_of, names_of, on_built, on_meant, optional_breaks, optional_meant, read_names, read_of, read_query, scope_items, scope_name, settled_columns}
 use Rattle.name_meaning.specs.Items.{SelectPart, items_breaks, made_items}
 use Rattle.name_meaning.specs.Meanings.{Around, Meant, OutColumn, Part, QueryMeant, is_whole, query_means_at}
@@ -121,7 +121,7 @@ module _ (n a b c d : ℕ) (around : Around) (word : Option ℕ) (input : FromMe
   abbrev grouped : Scope
   grouped = group_scope own groups having items
 
-  abbrev clauses : Clauses
+  abbrev clauses : ClausesMeant
   clauses = core_clauses (in_clause own around.outer false) (in_clause grouped around.outer true) grouped has_from input condition having items
 
   looked-high : n ≤ suc (max (max (max a b) c) d) → input.breaks ≡ [] → FromHigh a input → OptionalHigh b condition → OptionalHigh c having

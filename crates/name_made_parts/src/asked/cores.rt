@@ -20,29 +20,29 @@ use std::alloc::Global;
 
 /// A condition that is made, if there is one, and the aggregates in it.
 #[derive(Drop)]
-pub struct Kept {
+pub struct MadeCondition {
     pub condition: Option<Condition>,
     pub aggregates: List<Aggr>,
 }
 
 /// No condition.
-pub fn nothing_kept(alloc: Global) -> Kept
+pub fn nothing_kept(alloc: Global) -> MadeCondition
     ensures { result ≡ record { condition = None; aggregates = [] } }
 {
-    Kept {
+    MadeCondition {
         condition: None,
         aggregates: List::new(alloc),
     }
 }
 
 /// A condition, with what was found in it.
-pub fn kept_of(expr: Result<Expr, NoMemory>, found: Within) -> Result<Kept, NoMemory>
+pub fn kept_of(expr: Result<Expr, NoMemory>, found: Within) -> Result<MadeCondition, NoMemory>
     ensures made { IfOk result (λ kept. IsOkAnd expr (λ expr. kept ≡ kept_of expr found)) }
     ensures lacking { IfErr result (λ lack. expr ≡ Err lack) }
 {
     let (found, expr) = beside(found, expr)?;
     let Within { subs, aggregates } = found;
-    Ok(Kept {
+    Ok(MadeCondition {
         condition: Some(Condition { expr, subs }),
         aggregates,
     })
@@ -76,7 +76,7 @@ pub fn listed_of(items: Result<List<Item>, NoMemory>, found: Within) -> Result<L
 /// What a core does with the rows of its FROM.
 pub fn clauses_of(
     groups: Result<Option<List<usize>>, NoMemory>,
-    kept: Result<Kept, NoMemory>,
+    kept: Result<MadeCondition, NoMemory>,
     selected: Result<(Option<Condition>, Listed), NoMemory>,
     distinct: bool,
 ) -> Result<Clauses, NoMemory>
@@ -105,10 +105,10 @@ pub fn clauses_of(
 }
 
 /// The condition that is kept, if there is one.
-pub(crate) fn condition_of(kept: Kept) -> Option<Condition>
+pub(crate) fn condition_of(kept: MadeCondition) -> Option<Condition>
     ensures { result ≡ kept.condition }
 {
-    let Kept {
+    let MadeCondition {
         condition,
         aggregates: _aggregates,
     } = kept;

@@ -1,6 +1,5 @@
 -- What stands of a resolved IMPACT, so that it can be answered.
 use Rattle.std.specs.Prelude.{◌≡◌, ℕ, true, List, [], ◌∷◌, Option, Some, IfSome}
-use Rattle.perm_values.specs.declared.kind.Kind.{Kind}
 use Rattle.perm_values.specs.declared.kind.Kind.TheVariants.{Boolean}
 use Rattle.bag_algebra.specs.Closed.{is_closed}
 use Rattle.bag_algebra.specs.TablesRead.{EachTable}
@@ -12,15 +11,8 @@ use Rattle.query_facts.specs.monotone.Monotone.{is_monotone}
 use Rattle.perm_catalog.specs.Changes.{table_named}
 use Rattle.perm_catalog.specs.Columns.{column_kinds}
 use Rattle.perm_catalog.specs.Contents.{Contents}
+use Rattle.perm_catalog.specs.Held.{IsHeldTable}
 use Rattle.perm_catalog.specs.declared.entries.TableEntry.{TableEntry}
-
--- a table of the catalog has this number, and columns of these kinds
-pub record IsHeldTable (c : Contents) (id : ℕ) (kinds : List Kind) : Type 0 where
-  pub name : List ℕ
-  pub table : TableEntry
-  pub named : table_named c name ≡ Some table
-  pub id_is : table.id ≡ id
-  pub kinds_are : column_kinds table.columns ≡ kinds
 
 -- its table is one of the catalog; its query is monotone, closed, well formed under no outer rows, and reads the catalog's tables; its
 -- condition is a truth on the kinds of the table's columns, and on those that the query reads of the table, without sublinks and

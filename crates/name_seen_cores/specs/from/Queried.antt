@@ -1,5 +1,5 @@
 -- What the code answers of FROM, of a tree of set operations and of a query, or the first break.
-use Rattle.std.specs.Prelude.{◌≡◌, ℕ, List, [], ◌++◌, Some, Result, Ok, Err}
+use Rattle.std.specs.Prelude.{◌≡◌, ℕ, List, [], ◌++◌, Some, Result}
 use Rattle.perm_values.specs.declared.kind.Kind.{Kind}
 use Rattle.bag_algebra.specs.Kinds.{kinds_of}
 use Rattle.name_meaning.specs.Cores.{settle}
@@ -9,9 +9,8 @@ use Rattle.name_meaning.specs.Scopes.{ScopeItem, scope_of}
 use Rattle.name_meaning.specs.declared.scope.Scope.{Scope}
 use Rattle.name_meaning.specs.laws.Facts.{facts_of, both_facts}
 use Rattle.name_seen_parts.specs.Columns.{columns_of}
-use Rattle.name_seen_parts.specs.Seen.{first_or}
+use Rattle.name_seen_parts.specs.Seen.{FirstOr}
 use Rattle.name_seen_parts.specs.declared.refusal.Refusal.{Refusal}
-use Rattle.name_seen_parts.specs.declared.refusal.Refusal.TheVariants.{Break as Broken, NoMemory}
 use Rattle.name_seen_cores.specs.from.Added.{facts_in}
 use Rattle.name_seen_cores.specs.declared.from.facts.Facts.{Facts as Gathered}
 use Rattle.name_seen_cores.specs.declared.from.shown.QueryShown.{QueryShown}
@@ -29,9 +28,7 @@ pub record FromWhole (m : FromMeant) (earlier : List (List ℕ)) (old new : Gath
   pub adds : facts_in new ≡ both_facts (facts_in old) (facts_of m.query)
 
 abbrev pub FromSeen : FromMeant → List (List ℕ) → Gathered → Gathered → Result Scope Refusal → Type 0
-FromSeen m earlier old new (Ok scope) = FromWhole m earlier old new scope
-FromSeen m earlier old new (Err (Broken first)) = first_or m.breaks (tt {0}) ≡ Err first
-FromSeen m earlier old new (Err NoMemory) = Unit {0}
+FromSeen m earlier old new result = FirstOr m.breaks (FromWhole m earlier old new) result
 
 -- ---- a tree of set operations
 
@@ -42,9 +39,7 @@ pub record ColumnsWhole (m : QueryMeant) (old new : Gathered) (columns : List Sh
   pub adds : (wanted : List Kind) → facts_in new ≡ both_facts (facts_in old) (facts_of (m.make wanted))
 
 abbrev pub ColumnsSeen : QueryMeant → Gathered → Gathered → Result (List ShownColumn) Refusal → Type 0
-ColumnsSeen m old new (Ok columns) = ColumnsWhole m old new columns
-ColumnsSeen m old new (Err (Broken first)) = first_or m.breaks (tt {0}) ≡ Err first
-ColumnsSeen m old new (Err NoMemory) = Unit {0}
+ColumnsSeen m old new result = FirstOr m.breaks (ColumnsWhole m old new) result
 
 -- ---- a query
 
@@ -56,6 +51,4 @@ pub record QueryWhole (m : QueryMeant) (query : QueryShown) : Type 0 where
   pub facts : (wanted : List Kind) → facts_in query.facts ≡ facts_of (m.make wanted)
 
 abbrev pub QuerySeen : QueryMeant → Result QueryShown Refusal → Type 0
-QuerySeen m (Ok query) = QueryWhole m query
-QuerySeen m (Err (Broken first)) = first_or m.breaks (tt {0}) ≡ Err first
-QuerySeen m (Err NoMemory) = Unit {0}
+QuerySeen m result = FirstOr m.breaks (QueryWhole m) result

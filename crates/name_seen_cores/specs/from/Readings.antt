@@ -1,5 +1,5 @@
 -- What the code finds of an item of FROM: what it reads, and the facts of that.
-use Rattle.std.specs.Prelude.{◌≡◌, ℕ, List, [], ◌++◌, Some, Result, Ok, Err}
+use Rattle.std.specs.Prelude.{◌≡◌, ℕ, List, [], ◌++◌, Some, Result}
 use Rattle.perm_catalog.specs.declared.column.Column.{Column}
 use Rattle.perm_values.specs.declared.kind.Kind.{Kind}
 use Rattle.bag_algebra.specs.Kinds.{kinds_of, kinds_in}
@@ -7,9 +7,8 @@ use Rattle.bag_algebra.specs.declared.query.Label.TheVariants.{Relation, Externa
 use Rattle.name_meaning.specs.Froms.{Read, ItemMeant, table_columns, names_at, all_places}
 use Rattle.name_meaning.specs.declared.scope.Scope.{Scope}
 use Rattle.name_meaning.specs.laws.Facts.{Facts, facts_of, both_facts, source_facts}
-use Rattle.name_seen_parts.specs.Seen.{first_or}
+use Rattle.name_seen_parts.specs.Seen.{FirstOr}
 use Rattle.name_seen_parts.specs.declared.refusal.Refusal.{Refusal}
-use Rattle.name_seen_parts.specs.declared.refusal.Refusal.TheVariants.{Break as Broken, NoMemory}
 use Rattle.name_seen_cores.specs.from.Added.{facts_in}
 use Rattle.name_seen_cores.specs.declared.from.facts.Facts.{Facts as Gathered}
 use Rattle.name_seen_parts.specs.Scopes.{item_scope, scope_beside}
@@ -24,9 +23,7 @@ pub record IsRead (read : Read) (reading : Reading) : Type 0 where
   pub plain : facts_of read.plain ≡ facts_in reading.plain
 
 abbrev pub ReadSeen : Read → Result Reading Refusal → Type 0
-ReadSeen read (Ok reading) = IsRead read reading
-ReadSeen read (Err (Broken first)) = first_or read.breaks (tt {0}) ≡ Err first
-ReadSeen read (Err NoMemory) = Unit {0}
+ReadSeen read result = FirstOr read.breaks (IsRead read) result
 
 -- ---- facts of sources
 
@@ -51,9 +48,7 @@ pub record ItemAdded (m : ItemMeant) (scope : Scope) (old new : Gathered) (wider
   pub adds : facts_in new ≡ both_facts (facts_in old) (facts_of m.query)
 
 abbrev pub ItemSeen : ItemMeant → Scope → Gathered → Gathered → Scope → Result Unit Refusal → Type 0
-ItemSeen m scope old new wider (Ok done) = ItemAdded m scope old new wider
-ItemSeen m scope old new wider (Err (Broken first)) = first_or m.breaks (tt {0}) ≡ Err first
-ItemSeen m scope old new wider (Err NoMemory) = Unit {0}
+ItemSeen m scope old new wider result = FirstOr m.breaks (λ done. ItemAdded m scope old new wider) result
 
 -- all names so far are those of the items before, and of those in scope
 abbrev pub KeepsNames : List (List ℕ) → List (List ℕ) → Scope → Scope → Type 0

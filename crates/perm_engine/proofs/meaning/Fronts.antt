@@ -19,7 +19,7 @@ use Rattle.sql_tree.specs.declared.query.SetWord.{SetWord}
 use Rattle.sql_tree.specs.declared.query.SetWord.TheVariants as word
 use Rattle.name_meaning.proofs.Induction.{AreKept, CoreParts, SetParts, kept-set}
 use Rattle.name_meaning.proofs.Equations.{CoreFrame, QueryTreeFrame, SetTreeFrame}
-use Rattle.name_meaning.specs.Cores.{BodyPart, Clauses, aggregated_input, before_list, clauses_query, core_clauses, core_over, core_step, core_unlooked, distinct_if, filtered, group_scope, has_some, list_columns, optional_built, settle_known, word_breaks}
+use Rattle.name_meaning.specs.Cores.{BodyPart, ClausesMeant, aggregated_input, before_list, clauses_query, core_clauses, core_over, core_step, core_unlooked, distinct_if, filtered, group_scope, has_some, list_columns, optional_built, settle_known, word_breaks}
 use Rattle.name_meaning.specs.Froms.{FromMeant, from_all, in_clause}
 use Rattle.name_meaning.specs.Items.{Made, SelectPart, made_items}
 use Rattle.name_meaning.specs.Meanings.{Around, Part, QueryMeant, QueryPart, is_whole}
@@ -67,7 +67,7 @@ cut : (limit : Option ℤ) (keys : List Key) (query : Query) → IsPlain query �
 cut None keys query plain = plain
 cut (Some n) keys query plain = ap in_front (Limit-is query keys _)
 
-clauses-plain : (k : Clauses) (is_distinct : Bool) (wanted : List Kind) → IsPlain (clauses_query k is_distinct wanted)
+clauses-plain : (k : ClausesMeant) (is_distinct : Bool) (wanted : List Kind) → IsPlain (clauses_query k is_distinct wanted)
 clauses-plain k is_distinct wanted =
     let list : Made = made_items k.list (settle_known (list_columns k) wanted) (before_list k) in
     let rows : Query = aggregated_input (filtered k.input.query k.where_meant) k.groups ((optional_built k.having_meant).aggregates ++ list.aggregates) in

@@ -21,7 +21,7 @@ use Rattle.statement_meaning.specs.Turns.{Turn, Refused, Broken}
 use Rattle.statement_meaning.specs.declared.refusal.StepRefusal.{StepRefusal}
 use Rattle.statement_meaning.specs.declared.refusal.StepRefusal.TheVariants as refusal
 use Rattle.statement_meaning.specs.Carrying.{IsCarriedOut}
-use Rattle.perm_engine.specs.meaning.Resolving.{IsDue, IsMade, Resolves}
+use Rattle.perm_engine.specs.meaning.Resolving.{IsDue, IsResolvedSoundly, Resolves}
 use Rattle.perm_engine.proofs.meaning.Causes.{refuses_with}
 
 -- ---- resolving
@@ -50,7 +50,7 @@ due-refused breaks refused h first e = ap Err (same_refusal refused first (h fir
 
 -- ---- what becomes of it
 
-pub asked-made : (c : Contents) (statement : Statement) (made : Resolved) → IsMade (breaks c statement) c statement made → asked c statement ≡ asks c statement.at made
+pub asked-made : (c : Contents) (statement : Statement) (made : Resolved) → IsResolvedSoundly (breaks c statement) c statement made → asked c statement ≡ asks c statement.at made
 asked-made c statement made h =
     ap (λ bs. unless_broken bs (asks c statement.at (resolved c statement))) h.whole ∙ ap (asks c statement.at) (sym h.is)
 
@@ -122,18 +122,18 @@ taken-sound Can (Explained after answer) old new (Err refused) sound keeps h = s
 
 -- what name analysis makes of a statement that breaks nothing
 pub made-whole : (c : Contents) (statement : Statement) (made : Resolved) → breaks c statement ≡ [] → made ≡ resolved c statement → IsReady c (resolved c statement) →
-    KeepsSound (asks c statement.at (resolved c statement)) → IsMade (breaks c statement) c statement made
+    KeepsSound (asks c statement.at (resolved c statement)) → IsResolvedSoundly (breaks c statement) c statement made
 made-whole c statement made whole is ready sound =
     record { whole = whole; is = is; ready = subst (IsReady c) (sym is) ready; sound = subst (λ m. KeepsSound (asks c statement.at m)) (sym is) sound }
 
 -- what was asked for has become of the statement
 pub asked-carried : (c new : Contents) (statement : Statement) (made : Resolved) (result : Result (List ℕ) StepRefusal) (files : Files) →
-    IsMade (breaks c statement) c statement made → IsCarriedOut (asks c statement.at made) c new result files → IsCarriedOut (asked c statement) c new result files
+    IsResolvedSoundly (breaks c statement) c statement made → IsCarriedOut (asks c statement.at made) c new result files → IsCarriedOut (asked c statement) c new result files
 asked-carried c new statement made result files m h =
     subst (λ a. IsCarriedOut a c new result files) (sym (asked-made c statement made m)) h
 
 -- what was asked for begins a file where the statement does, and there alone
-pub begins-made : (c : Contents) (statement : Statement) (made : Resolved) → IsMade (breaks c statement) c statement made
+pub begins-made : (c : Contents) (statement : Statement) (made : Resolved) → IsResolvedSoundly (breaks c statement) c statement made
     → begins (asks c statement.at made) ≡ begins (asked c statement)
 begins-made c statement made m = ap begins (sym (asked-made c statement made m))
 
@@ -155,5 +155,5 @@ refused-ran c (r.ShowFresh name) refused last = refl
 refused-ran c (r.Impact name condition answer) refused last = tt
 
 pub made-ran : (c : Contents) (statement : Statement) (made : Resolved) (result : Result (List ℕ) StepRefusal) (before after : Option Ran) →
-    IsMade (breaks c statement) c statement made → KeepsRun c made result before after → KeepsRun c (resolved c statement) result before after
+    IsResolvedSoundly (breaks c statement) c statement made → KeepsRun c made result before after → KeepsRun c (resolved c statement) result before after
 made-ran c statement made result before after m h = subst (λ s. KeepsRun c s result before after) m.is h

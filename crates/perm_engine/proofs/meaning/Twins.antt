@@ -24,7 +24,7 @@ use Rattle.name_meaning.proofs.Every.{unbroken-not}
 use Rattle.name_meaning.proofs.Impacts.{later-none}
 use Rattle.statement_meaning.proofs.Ready.{names-whole}
 use Rattle.statement_meaning.proofs.Words.{plain_seen, proved-seen, body_meant, whole_query, word-proves}
-use Rattle.statement_meaning.specs.laws.Asks.{AsksFor, HasWord, IsResolved, WithoutWord, with_body}
+use Rattle.statement_meaning.specs.laws.Asks.{AsksFor, HasWord, ResolvesTo, WithoutWord, with_body}
 use Rattle.perm_engine.specs.meaning.headline.Words.{asking}
 
 -- ---- fewer columns
@@ -114,5 +114,5 @@ module _ (c : Contents) (statement : Statement) (answer : Answer) (tree : QueryT
       )
 
 -- a statement that asks for this is resolved to it
-pub asks-resolves : (c : Contents) (statement : Statement) (tree : QueryTree) (plain : Answer) → AsksFor c (asking statement tree) plain → IsResolved c tree plain
+pub asks-resolves : (c : Contents) (statement : Statement) (tree : QueryTree) (plain : Answer) → AsksFor c (asking statement tree) plain → ResolvesTo c tree plain
 asks-resolves c statement tree plain h = record { whole = names-whole c (asking statement tree) h.whole; is = h.is }

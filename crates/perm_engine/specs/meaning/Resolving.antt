@@ -13,7 +13,7 @@ use Rattle.statement_meaning.specs.declared.refusal.StepRefusal.{StepRefusal}
 use Rattle.statement_meaning.specs.declared.refusal.StepRefusal.TheVariants as refusal
 
 -- a statement without these breaks, whose names are looked up: it can be carried out, and keeps the catalog sound
-pub record IsMade (breaks : List Break) (c : Contents) (statement : Statement) (made : Resolved) : Type 0 where
+pub record IsResolvedSoundly (breaks : List Break) (c : Contents) (statement : Statement) (made : Resolved) : Type 0 where
   pub whole : breaks ≡ []
   pub is : made ≡ resolved c statement
   pub ready : IsReady c made
@@ -21,7 +21,7 @@ pub record IsMade (breaks : List Break) (c : Contents) (statement : Statement) (
 
 -- that, or the first of these breaks; want of memory says nothing
 abbrev pub ResolvesBy : List Break → Contents → Statement → Result Resolved StepRefusal → Type 0
-ResolvesBy breaks c statement (Ok made) = IsMade breaks c statement made
+ResolvesBy breaks c statement (Ok made) = IsResolvedSoundly breaks c statement made
 ResolvesBy breaks c statement (Err (refusal.Break b)) = first_or breaks (tt {0}) ≡ Err b
 ResolvesBy breaks c statement (Err (refusal.Run fault at)) = ⊥
 ResolvesBy breaks c statement (Err (refusal.Missing at)) = ⊥

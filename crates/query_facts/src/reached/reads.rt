@@ -11,4 +11,4 @@ pub use laws::{
     rows_with_the_same_values_at_the_places_give_a_query_one_meaning,
 };
 pub use nearest::nearest_places;
-pub use queries::{Column, columns_of};
+pub use queries::{OuterColumn, columns_of};

@@ -4,13 +4,13 @@ ghost use Rattle.refusal_notes.specs.places.Places.{is_feed, begins_character, l
 
 /// A place as a person counts: the line from 1, and in it the character from 1.
 #[derive(Clone, Copy, PartialEq, Eq)]
-pub struct Place {
+pub struct TextPlace {
     pub line: usize,
     pub column: usize,
 }
 
 /// The place of the byte at the offset, from 0; the place of the script's end, where the script ends before.
-pub fn place_of(script: &[u8], offset: usize) -> Place
+pub fn place_of(script: &[u8], offset: usize) -> TextPlace
     ensures line { result.line ≡ line_of script.now offset }
     ensures column { result.column ≡ column_of script.now offset }
 {
@@ -19,7 +19,7 @@ pub fn place_of(script: &[u8], offset: usize) -> Place
     } else {
         script
     };
-    Place {
+    TextPlace {
         line: line_behind(before),
         column: column_behind(before),
     }

@@ -6,9 +6,9 @@ use crate::rewritings::sum;
 use bag_algebra::{Query, exact_width};
 use perm_values::NoMemory;
 
-/// Columns of a set operation and of its left rewriting, which begins with them.
+/// SetWidths of a set operation and of its left rewriting, which begins with them.
 #[derive(Clone, Copy)]
-pub(crate) struct Columns {
+pub(crate) struct SetWidths {
     pub(crate) own: usize,
     pub(crate) kept: usize,
     /// Both together.
@@ -18,12 +18,12 @@ pub(crate) struct Columns {
 }
 
 /// It fails only where a number of columns is greater than any `usize`.
-pub(crate) fn columns_of(left: &Query, rewriting: &Query) -> Result<Columns, NoMemory>
+pub(crate) fn columns_of(left: &Query, rewriting: &Query) -> Result<SetWidths, NoMemory>
     ensures { IfOk result (λ columns. ColumnsOf columns left.now rewriting.now) }
 {
     let own = exact_width(left)?;
     let kept = exact_width(rewriting)?;
-    Ok(Columns {
+    Ok(SetWidths {
         own,
         kept,
         right: sum(kept, own)?,

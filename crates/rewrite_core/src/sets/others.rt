@@ -7,7 +7,7 @@ ghost use Rattle.rewrite_core.specs.ColumnsOf.{ColumnsOf};
 ghost use Rattle.rewrite_core.specs.OtherRows.{remaining};
 
 use crate::rewritings::{differs_from_first, join_kept, same_as_first};
-use crate::sets::columns::{Columns, columns_of};
+use crate::sets::columns::{SetWidths, columns_of};
 use bag_algebra::{JoinKind, Query};
 use contribution::join_on;
 use perm_values::NoMemory;
@@ -16,7 +16,7 @@ use std::alloc::Global;
 /// Rows made for EXCEPT, and the columns of EXCEPT and of its left rewriting.
 pub(crate) struct Counted {
     pub(crate) rows: Query,
-    pub(crate) columns: Columns,
+    pub(crate) columns: SetWidths,
 }
 
 /// Each row of the left rewriting that begins with one of the rows that EXCEPT leaves, and that row behind it.
@@ -67,7 +67,7 @@ fn same_rows(
     alloc: Global,
     rewriting: Query,
     plain: Query,
-    columns: Columns,
+    columns: SetWidths,
 ) -> Result<Query, NoMemory>
     ensures { IfOk result (λ p. p ≡ pairs_of Inner rewriting plain (same_as_first columns.own columns.kept)) }
 {
@@ -84,7 +84,7 @@ pub(crate) fn beside_others(
     alloc: Global,
     rest: Query,
     right: Query,
-    columns: Columns,
+    columns: SetWidths,
 ) -> Result<Query, NoMemory>
     ensures { IfOk result (λ p. p ≡
         columns_kept (pairs_of Left rest right (differs_from_first columns.own columns.right))

@@ -4,7 +4,7 @@ ghost use Rattle.std.specs.List.{AllZip};
 ghost use Rattle.bag_algebra.specs.Meaning.{optional_value, arguments_on};
 ghost use Rattle.bag_algebra.specs.Outcome.{each};
 ghost use Rattle.row_values.specs.Answers.{Refuses};
-ghost use Rattle.row_values.specs.Columns.{IsColumn, Distributes, AreEmpty};
+ghost use Rattle.row_values.specs.Columns.{IsAggregateColumn, Distributes, AreEmpty};
 
 use crate::error::ExecError;
 use crate::sublink::optional_value;
@@ -30,7 +30,7 @@ pub(crate) fn columns_of(
 ) -> Result<List<Column>, ExecError>
     requires long { length numbers.now ≡ length rows.now }
     requires within { All (λ number. number < count) numbers.now }
-    ensures ok { IfOk result (AllZip (IsColumn env.now rows.now numbers.now count) aggregates.now) }
+    ensures ok { IfOk result (AllZip (IsAggregateColumn env.now rows.now numbers.now count) aggregates.now) }
     ensures err { IfErr result (Refuses (each (arguments_on aggregates.now env.now) rows.now)) }
 {
     let mut columns = List::new(alloc);

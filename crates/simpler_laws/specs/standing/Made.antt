@@ -3,7 +3,7 @@ use Rattle.std.specs.Prelude.{◌≡◌, Result, Ok}
 use Rattle.perm_values.specs.declared.no_memory.NoMemory.{NoMemory}
 use Rattle.bag_algebra.specs.declared.query.Query.{Query}
 
-pub record IsMade (given : Result Query NoMemory) (node : Query → Query) (p : Query) : Type 0 where
+pub record IsMadeOf (given : Result Query NoMemory) (node : Query → Query) (p : Query) : Type 0 where
   pub input : Query
   pub was : given ≡ Ok input
   pub is : p ≡ node input

@@ -6,7 +6,7 @@ ghost use Rattle.bag_algebra.specs.declared.query.Query.TheVariants.{Filter, Pro
 ghost use Rattle.bag_algebra.specs.declared.query.Query.{Query};
 ghost use Rattle.bag_algebra.specs.declared.query.Sublink.{Sublink};
 ghost use Rattle.query_laws.specs.Standing.{SubsStand};
-ghost use Rattle.simpler_laws.specs.standing.Made.{IsMade, IsMadeOfBoth};
+ghost use Rattle.simpler_laws.specs.standing.Made.{IsMadeOf, IsMadeOfBoth};
 
 use bag_algebra::{Aggr, Expr, Item, JoinKind, Query, Sublink};
 use perm_values::{Copyable, Key, List, NoMemory, both, four, three};
@@ -143,7 +143,7 @@ pub fn limit_standing(
 ) -> Result<Query, NoMemory>
     ensures stands { (q : Query) → IfOk input (λ b. Stands q b) →
         IfOk result (λ p. Stands (Limit q keys.now count) p) }
-    ensures made { IfOk result (λ p. IsMade input (λ b. Limit b keys.now count) p) }
+    ensures made { IfOk result (λ p. IsMadeOf input (λ b. Limit b keys.now count) p) }
 {
     let (input, keys) = both(input, keys.copy(alloc))?;
     Query::limit(alloc, input, keys, count)

@@ -21,7 +21,7 @@ pub data IsSide (query : Query) (side : Side) : Type 0 where
   of_itself : side.input ≡ false → side.places ≡ range_with_len 0 (width_of query) → side.width ≡ width_of query → IsSide query side
 
 -- the query is a projection without sublinks to all columns of its input, in their order
-pub record IsWhole (query : Query) : Type 0 where
+pub record IsIdentityProjection (query : Query) : Type 0 where
   pub under : Query
   pub items : List Item
   pub is : query ≡ Project under items []

@@ -5,7 +5,7 @@ ghost use Rattle.bag_algebra.specs.Kinds.{width_of};
 ghost use Rattle.bag_algebra.specs.Rewriting.{Stands};
 ghost use Rattle.bag_algebra.specs.declared.query.Query.{Query};
 ghost use Rattle.simpler_laws.specs.Lowered.{AreColumns};
-ghost use Rattle.simplifier.specs.projections.Sides.{IsWhole};
+ghost use Rattle.simplifier.specs.projections.Sides.{IsIdentityProjection};
 
 use bag_algebra::{Item, Query, exact_width};
 use perm_values::NoMemory;
@@ -25,7 +25,7 @@ pub fn whole_dropped(query: Result<Query, NoMemory>) -> Result<Query, NoMemory>
 
 /// Whether the query is a projection without sublinks to all columns of its input, in their order.
 fn is_whole(query: &Query) -> bool
-    ensures { IsTrue result → IsWhole query.now }
+    ensures { IsTrue result → IsIdentityProjection query.now }
 {
     match query {
         Query::Project { input, items, subs } => {

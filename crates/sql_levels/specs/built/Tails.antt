@@ -6,7 +6,7 @@ use Rattle.sql_lexer.specs.declared.token.Token.{Token}
 use Rattle.sql_tree.specs.grammar.Building as b
 use Rattle.sql_tree.specs.grammar.Building.{node}
 use Rattle.sql_tree.specs.grammar.Cursors.{reading, sees, one}
-use Rattle.sql_tree.specs.grammar.Descent.{Outcome, mapped}
+use Rattle.sql_tree.specs.grammar.Descent.{Parsed, mapped}
 use Rattle.sql_tree.specs.grammar.built.Pieces.{by}
 use Rattle.sql_tree.specs.grammar.Rules.{word, token, symbol, ◌then◌}
 use Rattle.sql_tree.specs.grammar.Symbols as n
@@ -56,34 +56,34 @@ quantifiers = s.Any ∷ s.Some ∷ s.All ∷ []
 abbrev pub ranges : List Sort
 ranges = s.Not ∷ s.Like ∷ s.Between ∷ s.In ∷ []
 
-abbrev pub null_tail : List Token → Outcome Token Tail
+abbrev pub null_tail : List Token → Parsed Token Tail
 null_tail tokens = mapped (λ t. tail.Null) (one (s.Null ∷ []) tokens)
 
-abbrev pub truth_tail : List Token → Outcome Token Tail
+abbrev pub truth_tail : List Token → Parsed Token Tail
 truth_tail tokens = mapped (λ t. tail.Truth (b.truth_of t)) (one truths tokens)
 
-abbrev pub distinct_tail : List Token → Outcome Token Tail
+abbrev pub distinct_tail : List Token → Parsed Token Tail
 distinct_tail tokens = mapped (λ v. tail.Distinct v.1.1) (by (word s.Distinct then word s.From then symbol n.Compared) tokens)
 
 -- what stands behind IS [NOT]
-abbrev pub is_tail : List Token → Outcome Token Tail
+abbrev pub is_tail : List Token → Parsed Token Tail
 is_tail tokens = cond (sees (s.Null ∷ []) tokens) (null_tail tokens) (cond (sees truths tokens) (truth_tail tokens) (distinct_tail tokens))
 
 -- a comparison with each row of a query
-abbrev pub quantified : Compare → List Token → Outcome Token Tail
+abbrev pub quantified : Compare → List Token → Parsed Token Tail
 quantified op tokens = mapped (λ v. tail.Quantified (b.is v.0 s.All) op v.1) (by (token quantifiers then symbol n.InParentheses) tokens)
 
 -- a comparison with a value
-abbrev pub second : Compare → List Token → Outcome Token Tail
+abbrev pub second : Compare → List Token → Parsed Token Tail
 second op tokens = mapped (λ part. tail.Compared op part) (reading n.Ranged tokens)
 
-abbrev pub like : List Token → Outcome Token (Bool → ExprTree → ExprTree)
+abbrev pub like : List Token → Parsed Token (Bool → ExprTree → ExprTree)
 like tokens = mapped (λ v. b.range (inl v)) (by (word s.Like then symbol n.Sum) tokens)
 
-abbrev pub bounds : List Token → Outcome Token (Bool → ExprTree → ExprTree)
+abbrev pub bounds : List Token → Parsed Token (Bool → ExprTree → ExprTree)
 bounds tokens = mapped (λ v. b.range (inr (inl v))) (by (word s.Between then symbol n.Sum then word s.And then symbol n.Sum) tokens)
 
-abbrev pub within : List Token → Outcome Token (Bool → ExprTree → ExprTree)
+abbrev pub within : List Token → Parsed Token (Bool → ExprTree → ExprTree)
 within tokens = mapped (λ v. b.range (inr (inr v))) (by (word s.In then symbol n.Members) tokens)
 
 abbrev pub in_query : QueryTree → Bool → ExprTree → ExprTree
@@ -93,5 +93,5 @@ abbrev pub in_list : List ExprTree → Bool → ExprTree → ExprTree
 in_list list = ranged (tail.InList list)
 
 -- a query or a list, which stands between parentheses
-abbrev pub among : List Token → Outcome Token (Bool → ExprTree → ExprTree)
+abbrev pub among : List Token → Parsed Token (Bool → ExprTree → ExprTree)
 among tokens = cond (sees (s.Select ∷ []) tokens) (mapped in_query (reading n.Inner tokens)) (mapped in_list (reading n.Exprs tokens))

@@ -4,7 +4,7 @@ use Rattle.std.specs.Borrow.{Bor}
 use Rattle.sql_lexer.specs.declared.token.Token.{Token}
 use Rattle.sql_tree.specs.grammar.Building.{Word, present}
 use Rattle.sql_tree.specs.grammar.Cursors.{reading, sees}
-use Rattle.sql_tree.specs.grammar.Descent.{Outcome, mapped}
+use Rattle.sql_tree.specs.grammar.Descent.{Parsed, mapped}
 use Rattle.sql_tree.specs.grammar.Lists.{listed}
 use Rattle.sql_tree.specs.grammar.built.Pieces.{by}
 use Rattle.sql_tree.specs.grammar.Rules.{word, token, symbol, ◌then◌, optional}
@@ -24,11 +24,11 @@ abbrev pub marked : Option (Bor Token) → Option (Word × Token)
 marked None = None
 marked (Some t) = Some (tt, t.now)
 
-abbrev pub null : List Token → Outcome Token (Option (Word × Token))
+abbrev pub null : List Token → Parsed Token (Option (Word × Token))
 null tokens = by (optional (word s.Null then token (s.Literal ∷ []))) tokens
 
 -- what a statement says, by its first token
-abbrev pub statement_body : List Token → Outcome Token StatementBody
+abbrev pub statement_body : List Token → Parsed Token StatementBody
 statement_body tokens =
     cond (sees (begins n.Create) tokens) (reading n.Create tokens)
     (cond (sees (begins n.Copy) tokens) (reading n.Copy tokens)
@@ -40,9 +40,9 @@ statement_body tokens =
     (cond (sees (begins n.Impact) tokens) (reading n.Impact tokens)
     (mapped Select (reading n.Query tokens)))))))))
 
-abbrev pub optional_statement : List Token → Outcome Token (Option Statement)
+abbrev pub optional_statement : List Token → Parsed Token (Option Statement)
 optional_statement tokens = by (optional (symbol n.StatementOf)) tokens
 
 -- the statements that are there, with semicolons between them
-abbrev pub statements : List Token → Outcome Token (List Statement)
+abbrev pub statements : List Token → Parsed Token (List Statement)
 statements tokens = mapped present (listed s.Semicolon optional_statement tokens)

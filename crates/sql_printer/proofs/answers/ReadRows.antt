@@ -23,7 +23,7 @@ use Rattle.bag_algebra.specs.declared.query.Query.TheVariants.{Single, Table}
 use Rattle.contribution.proofs.RowKinds.{row_fits-length}
 use Rattle.perm_catalog.specs.Columns.{column_kinds}
 use Rattle.perm_catalog.specs.Contents.{Contents}
-use Rattle.perm_catalog.specs.declared.entries.Mark.{Mark}
+use Rattle.perm_catalog.specs.declared.entries.StoredQuery.{StoredQuery}
 use Rattle.perm_catalog.specs.declared.entries.TableEntry.{TableEntry}
 use Rattle.sql_tree.specs.declared.query.QueryTree.{QueryTree}
 use Rattle.name_meaning.specs.Froms.{table_plain}
@@ -49,7 +49,7 @@ plain-rows db env name table = by table.stored
     own : Query
     own = Table table.id (column_kinds table.columns)
 
-    by : (stored : Option Mark) → meaning (table_plain name (record table { stored = stored })) db env ≡ Good (db table.id)
+    by : (stored : Option StoredQuery) → meaning (table_plain name (record table { stored = stored })) db env ≡ Good (db table.id)
     by None = meaning-Base db env own _ _
     by (Some mark) = meaning-Base db env own _ _
 

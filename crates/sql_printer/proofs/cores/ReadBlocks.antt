@@ -38,7 +38,7 @@ use Rattle.sql_printer.specs.rows.Printed.{Readings, asked_by, columns_from, con
 use Rattle.sql_printer.specs.rows.PrintedExpressions.{printed_expr}
 use Rattle.sql_printer.specs.rows.Writable.{Writable, WritableItems}
 use Rattle.sql_printer.proofs.rows.ShownRows.{shown_kinds}
-use Rattle.sql_printer.specs.expressions.Scopes.{Few, IsScope, ScopesAre, marks}
+use Rattle.sql_printer.specs.expressions.Scopes.{Few, IsPrintedScope, ScopesAre, marks}
 use Rattle.sql_printer.proofs.cores.OpenedCores.{core_over_parts, opened-select}
 use Rattle.sql_printer.proofs.expressions.PlainShown.{AllPlain}
 use Rattle.sql_printer.proofs.cores.ReadChains.{ChainRead, Extended, chain-from, extended, join-extended, just-read, lateral-extended, one_more}
@@ -58,7 +58,7 @@ use Rattle.sql_printer.proofs.expressions.ReadScopes.{finds}
 -- a FROM with a WHERE, whose columns are these behind so many that nothing reads
 pub record BlockRead (c : Contents) (depth : ℕ) (above : List Scope) (own : List Kind) (front : ℕ) (chain : Chain) (test : ConditionForm) (q : Query) : Type 0 where
   pub items : List ScopeItem
-  pub scope : IsScope depth front own (scope_of items)
+  pub scope : IsPrintedScope depth front own (scope_of items)
   pub base : Query
   pub from : (trees : List FromTree) → AreSources (sources chain) trees → FromRead (from_all above (map (from_of c) trees)) items base
   pub condition : Option Condition
@@ -97,7 +97,7 @@ module _ (c : Contents) (depth : ℕ) (above : List Scope) where
 -- ---- conditions over its sources
 
 module _ (c : Contents) (depth : ℕ) (above : List Scope) (outer : List (List Kind)) (unread : List ℕ) (own : List Kind) (front : ℕ) (items : List ScopeItem)
-    (scope : IsScope (suc depth) front own (scope_of items)) (s : ScopesAre depth outer unread above) (forms : List ExprForm) (asked : List Sublink) (all : List Kind)
+    (scope : IsPrintedScope (suc depth) front own (scope_of items)) (s : ScopesAre depth outer unread above) (forms : List ExprForm) (asked : List Sublink) (all : List Kind)
     (sublinks : (here : Surroundings) → here.scopes ≡ scope_of items ∷ above → here.argument ≡ false → here.sublinks ≡ true → SubsRead c here forms asked all)
     (condition : Expr) (h : HasKind (own ∷ outer) all condition kinds.Boolean) (w : Writable condition) where
   -- in WHERE and in ON
@@ -291,7 +291,7 @@ module _ (c : Contents) (depth : ℕ) (outer : List (List Kind)) (unread : List 
 
   -- what sees these sources
   abbrev pub SubsOver : List Kind → ℕ → List ExprForm → List Sublink → List Kind → Type 0
-  SubsOver own front forms asked all = (above : List Scope) → ScopesAre depth outer unread above → (items : List ScopeItem) → IsScope (suc depth) front own (scope_of items)
+  SubsOver own front forms asked all = (above : List Scope) → ScopesAre depth outer unread above → (items : List ScopeItem) → IsPrintedScope (suc depth) front own (scope_of items)
       → (here : Surroundings) → here.scopes ≡ scope_of items ∷ above → here.argument ≡ false → here.sublinks ≡ true → SubsRead c here forms asked all
 
   module _ (left right : List Kind) (bound : Few (left ++ right)) (lf : Framed) (lr : Readings) (first : FramedRead left lf lr) where

@@ -41,7 +41,7 @@ use Rattle.sql_printer.specs.cores.Queries.{QueryRead, numbered_names}
 use Rattle.sql_printer.proofs.cores.ReadFroms.{item-is, item_of_query, listed_names, numbered-columns, query_item-read}
 use Rattle.sql_printer.proofs.cores.ReadJoins.{join-known, numbered-append, step-on, words-plain}
 use Rattle.sql_printer.proofs.cores.ReadLaterals.{beside, step-lateral, words-kind, words-lateral}
-use Rattle.sql_printer.specs.expressions.Scopes.{IsScope, Numbered, marks}
+use Rattle.sql_printer.specs.expressions.Scopes.{IsPrintedScope, Numbered, marks}
 use Rattle.sql_printer.proofs.expressions.ReadScopes.{differ, tail-same}
 
 -- ---- names of sources
@@ -62,7 +62,7 @@ others-apart number other low small = differ (source_name number) (source_name o
 -- ---- scopes whose last columns are numbered
 
 pub record Ending (depth front : ℕ) (kinds : List Kind) (scope : Scope) : Type 0 where
-  pub is : IsScope depth front kinds scope
+  pub is : IsPrintedScope depth front kinds scope
   pub none_behind : is.back ≡ []
 
 -- over one query
@@ -110,7 +110,7 @@ module _ (depth front : ℕ) (items : List ScopeItem) (left : List Kind) (s : En
       ap (λ cs. cs ++ ys) s.is.columns ∙ ap (λ back. (s.is.unread ++ (s.is.own ++ back)) ++ ys) s.none_behind
       ∙ ap (λ own. (s.is.unread ++ own) ++ ys) (append-nil s.is.own) ∙ append_assoc s.is.unread s.is.own ys
 
-  pub extended : (right : List Kind) → 1 + length (left ++ right) < 2 ^ 64 → IsScope depth front (left ++ right) (scope_of (one_more depth items left right))
+  pub extended : (right : List Kind) → 1 + length (left ++ right) < 2 ^ 64 → IsPrintedScope depth front (left ++ right) (scope_of (one_more depth items left right))
   extended [] bound = record {
     unread = s.is.unread;
     own = s.is.own;
@@ -269,7 +269,7 @@ module _ (c : Contents) (depth : ℕ) (above : List Scope) where
   -- what such a FROM and one more source are read as; others follow where that has columns
   pub record Extended (left right : List Kind) (front : ℕ) (chain : Chain) (q : Query) : Type 0 where
     pub items : List ScopeItem
-    pub scope : IsScope depth front (left ++ right) (scope_of items)
+    pub scope : IsPrintedScope depth front (left ++ right) (scope_of items)
     pub read : (item : FromItem) (steps : List JoinStep) → IsSource chain.first item → AreJoins chain.more steps → FromRead (chain_meant item steps) items q
     pub follows : is_any (length right) ≡ true → ChainRead (left ++ right) front chain q
 

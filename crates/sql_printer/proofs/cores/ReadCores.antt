@@ -8,7 +8,7 @@ use Rattle.bag_algebra.specs.declared.expr.Item.{Item}
 use Rattle.bag_algebra.specs.declared.query.Query.{Query}
 use Rattle.bag_algebra.specs.declared.query.Query.TheVariants.{Filter, Project}
 use Rattle.bag_algebra.specs.declared.query.Sublink.{Sublink}
-use Rattle.name_meaning.specs.Cores.{Clauses, clause_breaks, before_list, core_clauses, core_meant, core_over, core_seen, core_unlooked, distinct_if, filtered, group_place, is_grouped, list_columns, settle_known, word_breaks}
+use Rattle.name_meaning.specs.Cores.{ClausesMeant, clause_breaks, before_list, core_clauses, core_meant, core_over, core_seen, core_unlooked, distinct_if, filtered, group_place, is_grouped, list_columns, settle_known, word_breaks}
 use Rattle.name_meaning.specs.Froms.{FromMeant, in_clause, optional_breaks, optional_meant}
 use Rattle.name_meaning.specs.Items.{SelectPart, made_items, named_from}
 use Rattle.name_meaning.specs.Meanings.{Around, Meant, Part, Surroundings, broken_if, is_whole, unites}
@@ -78,7 +78,7 @@ module _ (around : Around) (input : FromMeant) (has_from is_distinct : Bool) (pa
     (from : FromRead input items q) (test : Option Condition) (names : List (List ℕ)) (kinds : List Kind) (made : ℕ → List Item) (subs : List Sublink)
     (where_read : WhereRead (in_clause (scope_of items) around.outer false) condition test)
     (list : ListRead has_from (scope_of items) (in_clause (scope_of items) around.outer true) parts names kinds made subs) where
-  abbrev clauses : Clauses
+  abbrev clauses : ClausesMeant
   clauses = core_clauses (in_clause (scope_of items) around.outer false) (in_clause (scope_of items) around.outer true) (scope_of items) has_from input condition None parts
 
   ungrouped_is : (b : Bool) → b ≡ false → record (scope_of items) { groups = cond b (Some (filter_map (group_place (scope_of items)) [])) None } ≡ scope_of items

@@ -23,7 +23,7 @@ use Rattle.tree_texts.specs.Forms as f
 use Rattle.tree_texts.specs.Forms.{QueryForm}
 use Rattle.tree_texts.specs.Trees.{AreSources, IsQuery, no_join_trees, source_trees, subquery_tree}
 use Rattle.sql_printer.proofs.rows.ShownRows.{shown_kinds}
-use Rattle.sql_printer.specs.expressions.Scopes.{IsScope, Numbered, marks}
+use Rattle.sql_printer.specs.expressions.Scopes.{IsPrintedScope, Numbered, marks}
 use Rattle.sql_printer.specs.cores.Queries.{QueryRead, numbered_names, out_columns}
 use Rattle.sql_printer.proofs.cores.ReadCores.{FromRead}
 
@@ -96,7 +96,7 @@ numbered-columns depth number item (kind ∷ more) = (refl, refl, numbered-colum
 
 -- over one query whose columns are numbered from 1 on
 pub scope-over : (depth : ℕ) (name : List ℕ) (all : List Kind) → 1 + length all < 2 ^ 64
-    → IsScope depth 0 all (scope_of (item_of_query name (listed_names depth 1 all) (shown_kinds all) ∷ []))
+    → IsPrintedScope depth 0 all (scope_of (item_of_query name (listed_names depth 1 all) (shown_kinds all) ∷ []))
 scope-over depth name [] bound = record {
   unread = [];
   own = [];

@@ -16,13 +16,13 @@ use Rattle.perm_values.specs.declared.no_memory.NoMemory.{NoMemory}
 use Rattle.statement_meaning.specs.Ready.{CanExplain}
 use Rattle.sql_printer.specs.explained.Explaining.{StandsFor}
 use Rattle.sql_printer.specs.explained.Reading.{SaysAs}
-use Rattle.stored_provenance.specs.Held.{IsHeldTable}
+use Rattle.perm_catalog.specs.Held.{IsHeldTable}
 
 -- a table of the catalog fits each database that gives the catalog's tables rows
 held-fits : (c : Contents) (db : Database) → GivesTables c db → (id : ℕ) (kinds : List Kind) → IsHeldTable c id kinds → bag_fits (db id) kinds ≡ true
 held-fits c db gives id kinds h =
     subst (λ (ks : List Kind). bag_fits (db id) ks ≡ true) h.kinds_are
-    (subst (λ (n : ℕ). bag_fits (db n) (column_kinds h.table.columns) ≡ true) h.same (gives h.name h.table h.named))
+    (subst (λ (n : ℕ). bag_fits (db n) (column_kinds h.table.columns) ≡ true) h.id_is (gives h.name h.table h.named))
 
 module _ (c : Contents) (answer plain : Answer) (can : CanExplain c answer) (stands : StandsFor answer plain) where
   width-is : width_of plain.query ≡ width_of answer.query

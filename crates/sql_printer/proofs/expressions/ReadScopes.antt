@@ -20,7 +20,7 @@ use Rattle.name_meaning.specs.declared.scope.Found.TheVariants.{Column}
 use Rattle.name_meaning.specs.declared.scope.Scope.{Scope}
 use Rattle.name_meaning.specs.declared.scope.ScopeColumn.{ScopeColumn}
 use Rattle.sql_printer.specs.expressions.Reading.{Finds}
-use Rattle.sql_printer.specs.expressions.Scopes.{IsScope, Numbered, ScopesAre, Unread, marks}
+use Rattle.sql_printer.specs.expressions.Scopes.{IsPrintedScope, Numbered, ScopesAre, Unread, marks}
 
 -- ---- names
 
@@ -159,7 +159,7 @@ numbered-apart depth far other number (kind ∷ kinds) (column ∷ columns) h lo
 )
 
 -- the columns of a name in a scope
-pub meant-own : (depth front : ℕ) (kinds : List Kind) (scope : Scope) → IsScope depth front kinds scope → (place : ℕ) (kind : Kind) → slice_get kinds place ≡ Some kind
+pub meant-own : (depth front : ℕ) (kinds : List Kind) (scope : Scope) → IsPrintedScope depth front kinds scope → (place : ℕ) (kind : Kind) → slice_get kinds place ≡ Some kind
     → OneCalled (marks depth ++ decimal (place + 1)) (front + place) kind (columns_meant_by None (marks depth ++ decimal (place + 1)) scope)
 meant-own depth front kinds scope s place kind e =
     let turned : 1 + place ≡ place + 1 = omega arith in
@@ -176,7 +176,7 @@ meant-own depth front kinds scope s place kind e =
     subst (λ n. OneCalled (marks depth ++ decimal n) (front + place) kind (columns_meant_by None (marks depth ++ decimal n) scope)) turned
     (record { column = found.column; is = is; kind_is = found.kind_is })
 
-meant-none : (depth front far other : ℕ) (kinds : List Kind) (scope : Scope) → IsScope depth front kinds scope → far < depth → other < 2 ^ 64
+meant-none : (depth front far other : ℕ) (kinds : List Kind) (scope : Scope) → IsPrintedScope depth front kinds scope → far < depth → other < 2 ^ 64
     → columns_meant_by None (marks far ++ decimal other) scope ≡ []
 meant-none depth front far other kinds scope s low bound =
     let name = marks far ++ decimal other in

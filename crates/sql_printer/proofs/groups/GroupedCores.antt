@@ -12,7 +12,7 @@ use Rattle.sql_tree.specs.declared.query.Core.{Core}
 use Rattle.sql_tree.specs.declared.query.SelectItem.{SelectItem}
 use Rattle.sql_tree.specs.declared.source.FromTree.{FromTree}
 use Rattle.name_meaning.proofs.Equations.{core-record-none-none, token}
-use Rattle.name_meaning.specs.Cores.{BodyPart, Clauses, before_list, clause_breaks, core_clauses, core_meant, core_over, core_seen, core_unlooked, group_break, group_place, group_scope, has_some, is_grouped, list_columns, settle_known, word_breaks}
+use Rattle.name_meaning.specs.Cores.{BodyPart, ClausesMeant, before_list, clause_breaks, core_clauses, core_meant, core_over, core_seen, core_unlooked, group_break, group_place, group_scope, has_some, is_grouped, list_columns, settle_known, word_breaks}
 use Rattle.name_meaning.specs.Froms.{FromMeant, from_all, in_clause}
 use Rattle.name_meaning.specs.Items.{SelectPart, made_items, named_from}
 use Rattle.name_meaning.specs.Meanings.{Around, is_whole}
@@ -70,7 +70,7 @@ module _ (around : Around) (input : FromMeant) (has_from : Bool) (parts : List S
     (places_are : filter_map (group_place (scope_of items)) columns ≡ places) (grouped : is_grouped columns None parts ≡ true)
     (names : List (List ℕ)) (all : List Kind) (made : ℕ → List Item) (aggregates : List Aggr)
     (list : GroupedList has_from (grouped_scope items places) (in_clause (grouped_scope items places) around.outer true) parts names all made aggregates) where
-  abbrev clauses : Clauses
+  abbrev clauses : ClausesMeant
   clauses = core_clauses (in_clause (scope_of items) around.outer false) (in_clause (grouped_scope items places) around.outer true) (grouped_scope items places) has_from input None None parts
 
   scope-is : group_scope (scope_of items) columns None parts ≡ grouped_scope items places

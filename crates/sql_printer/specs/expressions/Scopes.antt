@@ -28,7 +28,7 @@ Unread depth [] = Unit {0}
 Unread depth (column ∷ columns) = (column.name ≡ marks depth ++ decimal 0) × Unread depth columns
 
 -- so many columns that nothing reads, then columns of these kinds, numbered from 1 on, then more that nothing reads
-pub record IsScope (depth front : ℕ) (kinds : List Kind) (scope : Scope) : Type 0 where
+pub record IsPrintedScope (depth front : ℕ) (kinds : List Kind) (scope : Scope) : Type 0 where
   pub unread : List ScopeColumn
   pub own : List ScopeColumn
   pub back : List ScopeColumn
@@ -46,4 +46,4 @@ ScopesAre depth [] unread scopes = Unit {0}
 ScopesAre zero (kinds ∷ more) unread scopes = ⊥
 ScopesAre (suc depth) (kinds ∷ more) [] scopes = ⊥
 ScopesAre (suc depth) (kinds ∷ more) (front ∷ unread) [] = ⊥
-ScopesAre (suc depth) (kinds ∷ more) (front ∷ unread) (scope ∷ scopes) = IsScope (suc depth) front kinds scope × ScopesAre depth more unread scopes
+ScopesAre (suc depth) (kinds ∷ more) (front ∷ unread) (scope ∷ scopes) = IsPrintedScope (suc depth) front kinds scope × ScopesAre depth more unread scopes

@@ -5,15 +5,15 @@ use Rattle.std.specs.List.{list_any}
 use Rattle.sql_tree.specs.grammar.Rules.{Rule, word, token, ◌then◌, ◌or◌, front, optional, many, placed, symbol, Grammar, RuleOf, ValueOf}
 
 -- a value and the tokens behind it, or the tokens from the first on that can't stand
-pub data Outcome (Token X : Type 0) : Type 0 where
-  Taken : X → List Token → Outcome Token X
-  Stopped : List Token → Outcome Token X
+pub data Parsed (Token X : Type 0) : Type 0 where
+  Taken : X → List Token → Parsed Token X
+  Stopped : List Token → Parsed Token X
 
-abbrev pub and_then : {Token X Y : Type 0} → Outcome Token X → (X → List Token → Outcome Token Y) → Outcome Token Y
+abbrev pub and_then : {Token X Y : Type 0} → Parsed Token X → (X → List Token → Parsed Token Y) → Parsed Token Y
 and_then (Taken x rest) next = next x rest
 and_then (Stopped rest) next = Stopped rest
 
-abbrev pub mapped : {Token X Y : Type 0} → (X → Y) → Outcome Token X → Outcome Token Y
+abbrev pub mapped : {Token X Y : Type 0} → (X → Y) → Parsed Token X → Parsed Token Y
 mapped f (Taken x rest) = Taken (f x) rest
 mapped f (Stopped rest) = Stopped rest
 
@@ -92,16 +92,16 @@ module _ (g : Grammar) (tables : Tables g) where
   offset_of [] = 0
   offset_of (t ∷ rest) = g.offset t
 
-  abbrev pub take_word : g.Sort → List g.Token → Outcome g.Token (Unit {0})
+  abbrev pub take_word : g.Sort → List g.Token → Parsed g.Token (Unit {0})
   take_word sort [] = Stopped []
   take_word sort (t ∷ rest) = cond (g.same (g.sort t) sort) (Taken tt rest) (Stopped (t ∷ rest))
 
-  abbrev pub take_token : List g.Sort → List g.Token → Outcome g.Token g.Token
+  abbrev pub take_token : List g.Sort → List g.Token → Parsed g.Token g.Token
   take_token sorts [] = Stopped []
   take_token sorts (t ∷ rest) = cond (list_any (g.same (g.sort t)) sorts) (Taken t rest) (Stopped (t ∷ rest))
 
   -- as long as the next token begins one, at most this number of times
-  unfoldable pub repeated : {X : Type 0} → List g.Sort → (List g.Token → Outcome g.Token X) → ℕ → List g.Token → Outcome g.Token (List X)
+  unfoldable pub repeated : {X : Type 0} → List g.Sort → (List g.Token → Parsed g.Token X) → ℕ → List g.Token → Parsed g.Token (List X)
   repeated sorts one zero ts = Taken [] ts
   repeated sorts one (suc count) ts =
       cond (next_is sorts ts)
@@ -109,7 +109,7 @@ module _ (g : Grammar) (tables : Tables g) where
       (Taken [] ts)
 
   -- reading by a rule, where the symbols are read so
-  abbrev pub step : ((n : g.Symbol) → List g.Token → Outcome g.Token (g.Tree n)) → (r : RuleOf g) → List g.Token → Outcome g.Token (ValueOf g r)
+  abbrev pub step : ((n : g.Symbol) → List g.Token → Parsed g.Token (g.Tree n)) → (r : RuleOf g) → List g.Token → Parsed g.Token (ValueOf g r)
   step calls (word sort) ts = take_word sort ts
   step calls (token sorts) ts = take_token sorts ts
   step calls (r then s) ts = and_then (step calls r ts) (λ x mid. mapped (λ y. (x, y)) (step calls s mid))
@@ -121,10 +121,10 @@ module _ (g : Grammar) (tables : Tables g) where
   step calls (symbol n) ts = calls n ts
 
   -- reading of a symbol, no deeper than this number of calls
-  unfoldable pub reading_to : ℕ → (n : g.Symbol) → List g.Token → Outcome g.Token (g.Tree n)
+  unfoldable pub reading_to : ℕ → (n : g.Symbol) → List g.Token → Parsed g.Token (g.Tree n)
   reading_to zero n ts = Stopped ts
   reading_to (suc depth) n ts = mapped (g.build n) (step (reading_to depth) (g.body n) ts)
 
   -- calls go no deeper than this: each takes a token or falls in rank
-  unfoldable pub read : (n : g.Symbol) → List g.Token → Outcome g.Token (g.Tree n)
+  unfoldable pub read : (n : g.Symbol) → List g.Token → Parsed g.Token (g.Tree n)
   read n ts = reading_to (suc (length ts * tables.ranks + tables.rank n)) n ts

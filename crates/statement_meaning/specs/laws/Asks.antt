@@ -42,7 +42,7 @@ abbrev pub with_body : QueryTree → SetTree → QueryTree
 with_body tree body = record tree { body = body }
 
 -- a query that breaks no rule of names and kinds, limits aside, and what it is resolved to
-pub record IsResolved (c : Contents) (tree : QueryTree) (answer : Answer) : Type 0 where
+pub record ResolvesTo (c : Contents) (tree : QueryTree) (answer : Answer) : Type 0 where
   pub whole : name_breaks c (st.Select tree) ≡ []
   pub is : resolved_body c (st.Select tree) ≡ r.Select answer
 

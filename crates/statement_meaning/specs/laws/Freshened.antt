@@ -5,8 +5,8 @@ use Rattle.perm_catalog.specs.Changes.{table_named}
 use Rattle.perm_catalog.specs.Contents.{Contents}
 use Rattle.perm_catalog.specs.Sound.{IsSound}
 use Rattle.perm_catalog.specs.Stored.{IsFresh}
-use Rattle.perm_catalog.specs.declared.entries.Kept.{Kept}
-use Rattle.perm_catalog.specs.declared.entries.Mark.{Mark}
+use Rattle.perm_catalog.specs.declared.entries.SourceVersion.{SourceVersion}
+use Rattle.perm_catalog.specs.declared.entries.StoredQuery.{StoredQuery}
 use Rattle.perm_catalog.specs.declared.entries.TableEntry.{TableEntry}
 use Rattle.name_meaning.specs.declared.answer.Resolved.{Resolved}
 use Rattle.name_meaning.specs.declared.answer.Resolved.TheVariants as r
@@ -29,20 +29,20 @@ written (r.ShowFresh name) = None
 written (r.Impact name condition answer) = None
 
 -- it is none of the tables that the stored query read
-abbrev pub IsUnread : Contents → Mark → List ℕ → Type 0
+abbrev pub IsUnread : Contents → StoredQuery → List ℕ → Type 0
 IsUnread c stored name =
-    IfSome (table_named c name) (λ (table : TableEntry). All (λ (kept : Kept). kept.id ≢ table.id) stored.kept)
+    IfSome (table_named c name) (λ (table : TableEntry). All (λ (kept : SourceVersion). kept.id ≢ table.id) stored.kept)
 
 -- it is one of them
-pub record IsRead (c : Contents) (stored : Mark) (name : List ℕ) : Type 0 where
+pub record IsStoredRead (c : Contents) (stored : StoredQuery) (name : List ℕ) : Type 0 where
   pub table : TableEntry
   pub named : table_named c name ≡ Some table
-  pub kept : Kept
+  pub kept : SourceVersion
   pub among : Contains stored.kept kept
   pub same : kept.id ≡ table.id
 
 -- over a sound catalog a table of this name stores this, and the statement can be carried out and adds what is sound
-pub record MeetsStored (c : Contents) (statement : Resolved) (name : List ℕ) (table : TableEntry) (stored : Mark) : Type 0 where
+pub record MeetsStored (c : Contents) (statement : Resolved) (name : List ℕ) (table : TableEntry) (stored : StoredQuery) : Type 0 where
   pub sound : IsSound c
   pub ready : IsReady c statement
   pub adds : AddsSoundly c statement
@@ -55,7 +55,7 @@ pub record MeetsStored (c : Contents) (statement : Resolved) (name : List ℕ) (
 pub record StoresFresh (name : List ℕ) (query : Query) (c : Contents) : Type 0 where
   pub table : TableEntry
   pub named : table_named c name ≡ Some table
-  pub stored : Mark
+  pub stored : StoredQuery
   pub stores : table.stored ≡ Some stored
   pub asks : stored.query ≡ query
   pub fresh : IsFresh c stored

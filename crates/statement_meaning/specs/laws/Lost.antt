@@ -15,7 +15,7 @@ use Rattle.sql_tree.specs.declared.statement.Statement.{Statement}
 use Rattle.name_meaning.specs.Statements.{breaks, resolved}
 use Rattle.name_meaning.specs.declared.answer.Resolved.TheVariants as r
 use Rattle.statement_meaning.specs.Turns.{reads}
-use Rattle.statement_meaning.specs.laws.Printed.{IsTextOf}
+use Rattle.statement_meaning.specs.laws.Printed.{IsPrintedAs}
 
 -- the statement is an IMPACT that breaks no rule, limits included, and this is what it is resolved to
 pub record AsksImpact (c : Contents) (statement : Statement) (name : List ℕ) (condition : Option Expr) (answer : Answer) : Type 0 where
@@ -26,7 +26,7 @@ pub record AsksImpact (c : Contents) (statement : Statement) (name : List ℕ) (
 -- and nothing else
 pub record ListsLost (answer : Answer) (id : ℕ) (condition : Option Expr) (db : Database) (text : List ℕ) : Type 0 where
   pub rows : Bag
-  pub listed : IsTextOf answer rows text
+  pub listed : IsPrintedAs answer rows text
   pub vanish : HoldsOnce (Vanishes answer.query id condition db) rows
 
 -- a fault that the query meets; or, where the query reads the table, one that the condition meets on a row of the table

@@ -14,7 +14,7 @@ use Rattle.perm_catalog.specs.Contents.{Contents}
 use Rattle.perm_catalog.specs.Sound.{IsSound, IsSoundView}
 use Rattle.perm_catalog.specs.declared.column.Column.{Column}
 use Rattle.perm_catalog.specs.declared.entries.TableEntry.{TableEntry}
-use Rattle.stored_provenance.specs.Held.{IsHeldTable}
+use Rattle.perm_catalog.specs.Held.{IsHeldTable}
 use Rattle.name_meaning.specs.declared.answer.Resolved.{Resolved}
 use Rattle.name_meaning.specs.declared.answer.Resolved.TheVariants as r
 use Rattle.statement_meaning.specs.Asking.{Asked}

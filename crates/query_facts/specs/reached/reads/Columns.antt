@@ -13,14 +13,14 @@ use Rattle.bag_algebra.specs.declared.expr.Item.{Item}
 use Rattle.bag_algebra.specs.declared.query.Aggr.{Aggr}
 use Rattle.bag_algebra.specs.declared.query.Query.{Query, Row_of-Sublink, more_of-Sublink, end_of-Sublink}
 use Rattle.bag_algebra.specs.declared.query.Query.TheVariants.{Table, Single}
-use Rattle.query_facts.specs.declared.reached.reads.queries.Column.{Column}
+use Rattle.query_facts.specs.declared.reached.reads.queries.OuterColumn.{OuterColumn}
 
-abbrev pub column_at : ℕ → ℕ → Column
+abbrev pub column_at : ℕ → ℕ → OuterColumn
 column_at level place = record { level = level; place = place }
 
 -- the columns that an expression reads, as often as it names them
 abbrev mutual
-  pub expr_columns : Expr → List Column
+  pub expr_columns : Expr → List OuterColumn
   expr_columns (Col level place) = column_at level place ∷ []
   expr_columns (Lit v kind) = []
   expr_columns (OpOf op _ parts) = parts_columns parts
@@ -31,41 +31,41 @@ abbrev mutual
   expr_columns (IsTruthOf truth part) = expr_columns part
   expr_columns (SameOf first second) = expr_columns first ++ expr_columns second
 
-  pub parts_columns : {m : _} → Row_of-Expr m → List Column
+  pub parts_columns : {m : _} → Row_of-Expr m → List OuterColumn
   parts_columns end_of-Expr = []
   parts_columns (more_of-Expr part parts) = expr_columns part ++ parts_columns parts
 
-  pub steps_columns : {m : _} → Row_of-ChainStep m → List Column
+  pub steps_columns : {m : _} → Row_of-ChainStep m → List OuterColumn
   steps_columns end_of-ChainStep = []
   steps_columns (more_of-ChainStep op part steps) = expr_columns part ++ steps_columns steps
 
-  pub arms_columns : {m : _} → Row_of-Arm m → List Column
+  pub arms_columns : {m : _} → Row_of-Arm m → List OuterColumn
   arms_columns end_of-Arm = []
   arms_columns (more_of-Arm condition arm arms) = (expr_columns condition ++ expr_columns arm) ++ arms_columns arms
 
 -- of a part that may be left out
-abbrev pub option_columns : Option Expr → List Column
+abbrev pub option_columns : Option Expr → List OuterColumn
 option_columns None = []
 option_columns (Some part) = expr_columns part
 
-abbrev pub items_columns : List Item → List Column
+abbrev pub items_columns : List Item → List OuterColumn
 items_columns items = flat_map (λ (item : Item). expr_columns item.expr) items
 
-abbrev pub aggregates_columns : List Aggr → List Column
+abbrev pub aggregates_columns : List Aggr → List OuterColumn
 aggregates_columns aggregates = flat_map (λ (aggregate : Aggr). option_columns aggregate.argument) aggregates
 
 -- a column of a row that isn't the first one, the rows being counted from the one behind the first
-abbrev pub one_nearer : ℕ → ℕ → List Column
+abbrev pub one_nearer : ℕ → ℕ → List OuterColumn
 one_nearer zero place = []
 one_nearer (suc level) place = column_at level place ∷ []
 
 -- of these columns those of the rows behind the first one
-abbrev pub behind : List Column → List Column
-behind columns = flat_map (λ (column : Column). one_nearer column.level column.place) columns
+abbrev pub behind : List OuterColumn → List OuterColumn
+behind columns = flat_map (λ (column : OuterColumn). one_nearer column.level column.place) columns
 
 -- the columns that a query reads of its outer rows, as often as it names them
 abbrev mutual
-  pub columns_of : Query → List Column
+  pub columns_of : Query → List OuterColumn
   columns_of (Table id kinds) = []
   columns_of Single = []
   columns_of (BaseOf input places label) = columns_of input
@@ -82,21 +82,21 @@ abbrev mutual
   columns_of (ProvOf input) = columns_of input
 
   -- of the node's row, at level 0, and of the outer rows behind it
-  pub subs_columns : {m : _} → Row_of-Sublink m → List Column
+  pub subs_columns : {m : _} → Row_of-Sublink m → List OuterColumn
   subs_columns end_of-Sublink = []
   subs_columns (more_of-Sublink kind tested query subs) = (option_columns tested ++ columns_of query) ++ subs_columns subs
 
 -- the rows have the same values in the columns
-abbrev pub Agree : List Column → List Row → List Row → Type 0
-Agree columns rows others = All (λ (column : Column). value_at (row_at rows column.level) column.place ≡ value_at (row_at others column.level) column.place) columns
+abbrev pub Agree : List OuterColumn → List Row → List Row → Type 0
+Agree columns rows others = All (λ (column : OuterColumn). value_at (row_at rows column.level) column.place ≡ value_at (row_at others column.level) column.place) columns
 
 -- whether the column at the place of the nearest row is among them
-abbrev pub is_nearest : List Column → ℕ → Bool
-is_nearest columns place = list_any (λ (column : Column). (column.level == 0) && (column.place == place)) columns
+abbrev pub is_nearest : List OuterColumn → ℕ → Bool
+is_nearest columns place = list_any (λ (column : OuterColumn). (column.level == 0) && (column.place == place)) columns
 
 abbrev pub is_among : List ℕ → ℕ → Bool
 is_among places place = list_any (λ p. p == place) places
 
 -- the places of the columns of the nearest row
-abbrev pub AreNearest : List Column → List ℕ → Type 0
+abbrev pub AreNearest : List OuterColumn → List ℕ → Type 0
 AreNearest columns places = (place : ℕ) → is_among places place ≡ is_nearest columns place

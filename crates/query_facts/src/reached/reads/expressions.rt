@@ -3,13 +3,13 @@ ghost use Rattle.std.specs.Prelude.{◌≡◌, [], ◌∷◌, ◌++◌, IfOk};
 ghost use Rattle.query_facts.specs.reached.reads.Columns.{aggregates_columns, column_at, expr_columns, items_columns, option_columns};
 ghost use Rattle.query_facts.specs.reached.reads.built.Columns.{all_arms_columns, all_parts_columns, all_steps_columns};
 
-use crate::reached::reads::queries::Column;
+use crate::reached::reads::queries::OuterColumn;
 use bag_algebra::{Aggr, Arm, ChainStep, Expr, Item};
 use perm_values::{List, NoMemory};
 
 /// Those of the expression.
 #[cycle(expr_columns)]
-pub(crate) fn expr_columns(expr: &Expr, found: List<Column>) -> Result<List<Column>, NoMemory>
+pub(crate) fn expr_columns(expr: &Expr, found: List<OuterColumn>) -> Result<List<OuterColumn>, NoMemory>
     ensures { IfOk result (λ columns. columns ≡ found ++ expr_columns expr.now) }
 {
     match expr {
@@ -35,7 +35,7 @@ pub(crate) fn expr_columns(expr: &Expr, found: List<Column>) -> Result<List<Colu
 }
 
 #[cycle(expr_columns)]
-fn parts_columns(parts: &[Expr], found: List<Column>) -> Result<List<Column>, NoMemory>
+fn parts_columns(parts: &[Expr], found: List<OuterColumn>) -> Result<List<OuterColumn>, NoMemory>
     ensures { IfOk result (λ columns. columns ≡ found ++ all_parts_columns parts.now) }
 {
     let mut columns = found;
@@ -46,7 +46,7 @@ fn parts_columns(parts: &[Expr], found: List<Column>) -> Result<List<Column>, No
 }
 
 #[cycle(expr_columns)]
-fn steps_columns(steps: &[ChainStep], found: List<Column>) -> Result<List<Column>, NoMemory>
+fn steps_columns(steps: &[ChainStep], found: List<OuterColumn>) -> Result<List<OuterColumn>, NoMemory>
     ensures { IfOk result (λ columns. columns ≡ found ++ all_steps_columns steps.now) }
 {
     let mut columns = found;
@@ -57,7 +57,7 @@ fn steps_columns(steps: &[ChainStep], found: List<Column>) -> Result<List<Column
 }
 
 #[cycle(expr_columns)]
-fn arms_columns(arms: &[Arm], found: List<Column>) -> Result<List<Column>, NoMemory>
+fn arms_columns(arms: &[Arm], found: List<OuterColumn>) -> Result<List<OuterColumn>, NoMemory>
     ensures { IfOk result (λ columns. columns ≡ found ++ all_arms_columns arms.now) }
 {
     let mut columns = found;
@@ -68,19 +68,19 @@ fn arms_columns(arms: &[Arm], found: List<Column>) -> Result<List<Column>, NoMem
     Ok(columns)
 }
 
-fn with_column(level: usize, place: usize, found: List<Column>) -> Result<List<Column>, NoMemory>
+fn with_column(level: usize, place: usize, found: List<OuterColumn>) -> Result<List<OuterColumn>, NoMemory>
     ensures { IfOk result (λ columns. columns ≡ found ++ column_at level place ∷ []) }
 {
     let mut columns = found;
-    columns.push(Column { level, place })?;
+    columns.push(OuterColumn { level, place })?;
     Ok(columns)
 }
 
 /// Those of a part that may be left out.
 pub(crate) fn option_columns(
     part: &Option<Expr>,
-    found: List<Column>,
-) -> Result<List<Column>, NoMemory>
+    found: List<OuterColumn>,
+) -> Result<List<OuterColumn>, NoMemory>
     ensures { IfOk result (λ columns. columns ≡ found ++ option_columns part.now) }
 {
     match part {
@@ -90,7 +90,7 @@ pub(crate) fn option_columns(
 }
 
 /// Those of all items.
-pub(crate) fn items_columns(items: &[Item], found: List<Column>) -> Result<List<Column>, NoMemory>
+pub(crate) fn items_columns(items: &[Item], found: List<OuterColumn>) -> Result<List<OuterColumn>, NoMemory>
     ensures { IfOk result (λ columns. columns ≡ found ++ items_columns items.now) }
 {
     let mut columns = found;
@@ -103,8 +103,8 @@ pub(crate) fn items_columns(items: &[Item], found: List<Column>) -> Result<List<
 /// Those of the arguments of all aggregates.
 pub(crate) fn aggregates_columns(
     aggregates: &[Aggr],
-    found: List<Column>,
-) -> Result<List<Column>, NoMemory>
+    found: List<OuterColumn>,
+) -> Result<List<OuterColumn>, NoMemory>
     ensures { IfOk result (λ columns. columns ≡ found ++ aggregates_columns aggregates.now) }
 {
     let mut columns = found;

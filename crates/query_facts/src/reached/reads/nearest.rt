@@ -2,7 +2,7 @@
 ghost use Rattle.std.specs.Prelude.{◌≡◌, IfOk};
 ghost use Rattle.query_facts.specs.reached.reads.Columns.{AreNearest, columns_of, is_among};
 
-use crate::reached::reads::queries::{Column, columns_of};
+use crate::reached::reads::queries::{OuterColumn, columns_of};
 use bag_algebra::Query;
 use perm_values::{List, NoMemory};
 use std::alloc::Global;
@@ -15,7 +15,7 @@ pub fn nearest_places(alloc: Global, query: &Query) -> Result<List<usize>, NoMem
     places_in(alloc, columns.as_slice())
 }
 
-fn places_in(alloc: Global, columns: &[Column]) -> Result<List<usize>, NoMemory>
+fn places_in(alloc: Global, columns: &[OuterColumn]) -> Result<List<usize>, NoMemory>
     ensures { IfOk result (λ places. AreNearest columns.now places) }
 {
     let mut places = List::new(alloc);

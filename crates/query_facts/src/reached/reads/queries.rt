@@ -12,14 +12,14 @@ use std::alloc::Global;
 
 /// A column of one of the rows around: level 0 is the nearest.
 #[derive(Clone, Copy, PartialEq, Eq)]
-pub struct Column {
+pub struct OuterColumn {
     pub level: usize,
     pub place: usize,
 }
 
 /// The columns that the query reads of its outer rows, in the order and as often as it names them. It fails only for want of
 /// memory.
-pub fn columns_of(alloc: Global, query: &Query) -> Result<List<Column>, NoMemory>
+pub fn columns_of(alloc: Global, query: &Query) -> Result<List<OuterColumn>, NoMemory>
     ensures { IfOk result (λ columns. columns ≡ columns_of query.now) }
 {
     query_columns(alloc, query, List::new(alloc))
@@ -30,8 +30,8 @@ pub fn columns_of(alloc: Global, query: &Query) -> Result<List<Column>, NoMemory
 fn query_columns(
     alloc: Global,
     query: &Query,
-    found: List<Column>,
-) -> Result<List<Column>, NoMemory>
+    found: List<OuterColumn>,
+) -> Result<List<OuterColumn>, NoMemory>
     ensures { IfOk result (λ columns. columns ≡ found ++ columns_of query.now) }
 {
     match query {
@@ -104,8 +104,8 @@ fn query_columns(
 fn subs_columns(
     alloc: Global,
     subs: &[Sublink],
-    found: List<Column>,
-) -> Result<List<Column>, NoMemory>
+    found: List<OuterColumn>,
+) -> Result<List<OuterColumn>, NoMemory>
     ensures { IfOk result (λ columns. columns ≡ found ++ all_subs_columns subs.now) }
 {
     let mut columns = found;
@@ -117,7 +117,7 @@ fn subs_columns(
 }
 
 /// Of the columns those of the rows behind the nearest, as they are seen from there, behind what was found before.
-fn with_behind(found: List<Column>, columns: &[Column]) -> Result<List<Column>, NoMemory>
+fn with_behind(found: List<OuterColumn>, columns: &[OuterColumn]) -> Result<List<OuterColumn>, NoMemory>
     ensures { IfOk result (λ more. more ≡ found ++ behind columns.now) }
 {
     let mut more = found;
@@ -127,12 +127,12 @@ fn with_behind(found: List<Column>, columns: &[Column]) -> Result<List<Column>, 
     Ok(more)
 }
 
-fn with_nearer(found: List<Column>, level: usize, place: usize) -> Result<List<Column>, NoMemory>
+fn with_nearer(found: List<OuterColumn>, level: usize, place: usize) -> Result<List<OuterColumn>, NoMemory>
     ensures { IfOk result (λ more. more ≡ found ++ one_nearer level place) }
 {
     let mut more = found;
     if level > 0 {
-        more.push(Column {
+        more.push(OuterColumn {
             level: level - 1,
             place,
         })?;

@@ -1,7 +1,7 @@
 use Rattle.std.proofs.Common.{◌≡◌, ◌⊎◌, ℕ, List, [], ◌∷◌, inl, inr, refl}
 use Rattle.sql_lexer.specs.declared.token.Token.{Token}
 use Rattle.sql_tree.specs.grammar.Cursors.{reading}
-use Rattle.sql_tree.specs.grammar.Descent.{Outcome, Taken, Stopped}
+use Rattle.sql_tree.specs.grammar.Descent.{Parsed, Taken, Stopped}
 use Rattle.sql_tree.specs.grammar.Grammar.{sql}
 use Rattle.sql_tree.specs.grammar.Symbols.{ScriptOf}
 use Rattle.sql_tree.specs.grammar.Tables.{sql_tables}
@@ -12,7 +12,7 @@ use Rattle.sql_parser.specs.Spells.{Spells, IsUnexpected, offset_in}
 use Rattle.sql_tree.specs.declared.statement.Script.{Script}
 use Rattle.sql_parser.proofs.laws.tokens_spell_a_script_or_one_is_unexpected.Goals as goal
 
-by_read : (tokens : List Token) (length : ℕ) (o : Outcome Token Script) → reading ScriptOf tokens ≡ o
+by_read : (tokens : List Token) (length : ℕ) (o : Parsed Token Script) → reading ScriptOf tokens ≡ o
     → ((script : Script) × Spells tokens script) ⊎ ((at : ℕ) × IsUnexpected tokens length at)
 unfolding reading
 by_read tokens length (Taken script []) e = inl (script, whole-spelled sql sql_tables goes_on decided ScriptOf tokens script e)

@@ -25,7 +25,7 @@ ghost use Rattle.statement_meaning.specs.Asking.{Asked, Settled, asked};
 ghost use Rattle.statement_meaning.specs.Turns.{Turn, Cause, Accepted, Refused, Meets, identity_of, rows_before};
 ghost use Rattle.statement_meaning.specs.declared.refusal.StepRefusal.TheVariants.{NoMemory as OutOfMemory};
 ghost use Rattle.statement_meaning.specs.declared.refusal.StepRefusal.{StepRefusal};
-ghost use Rattle.statement_meaning.specs.laws.Asks.{AsksFor, AsksToExplain, HasWord, IsResolved, WithoutWord, shown_names, with_body};
+ghost use Rattle.statement_meaning.specs.laws.Asks.{AsksFor, AsksToExplain, HasWord, ResolvesTo, WithoutWord, shown_names, with_body};
 ghost use Rattle.statement_meaning.specs.laws.Beside.{IsBeside};
 ghost use Rattle.statement_meaning.specs.laws.Lost.{AsksImpact, ListsLost, MeetsLost};
 ghost use Rattle.statement_meaning.specs.laws.Printed.{ListsBag, ListsBeside};
@@ -78,12 +78,12 @@ pub fn the_word_asks_for_provenance()
         (tree : QueryTree) (at : ℕ) (body : SetTree)
         → AsksFor c statement answer → statement.body ≡ st.Select tree → HasWord at tree.body
         → WithoutWord tree.body body
-        → (plain : Answer) × IsResolved c (with_body tree body) plain
+        → (plain : Answer) × ResolvesTo c (with_body tree body) plain
         × (answer.query ≡ Prov plain.query) × (answer.keys ≡ plain.keys) }
     ensures names { (c : Contents) (statement : Statement) (answer plain : Answer)
         (tree : QueryTree) (at : ℕ) (body : SetTree)
         → IsSound c → AsksFor c statement answer → statement.body ≡ st.Select tree → HasWord at tree.body
-        → WithoutWord tree.body body → IsResolved c (with_body tree body) plain
+        → WithoutWord tree.body body → ResolvesTo c (with_body tree body) plain
         → answer.names ≡ plain.names ++ shown_names (provenance_columns plain.query) }
 {}
 

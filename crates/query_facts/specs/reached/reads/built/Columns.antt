@@ -20,23 +20,23 @@ use Rattle.bag_algebra.specs.declared.query.Query.TheBlock.{shape-the_row-Sublin
 use Rattle.bag_algebra.specs.declared.query.Query.TheVariants.{Base, Filter, Project, Join, Apply, Union, Intersect, Except, Distinct, Aggregate, Limit, Prov}
 use Rattle.bag_algebra.specs.declared.query.Sublink.{Sublink}
 use Rattle.query_facts.specs.reached.reads.Columns.{expr_columns, parts_columns, steps_columns, arms_columns, option_columns, items_columns, aggregates_columns, behind, columns_of, subs_columns}
-use Rattle.query_facts.specs.declared.reached.reads.queries.Column.{Column}
+use Rattle.query_facts.specs.declared.reached.reads.queries.OuterColumn.{OuterColumn}
 
 -- ---- expressions
 
-abbrev pub arm_columns : Arm → List Column
+abbrev pub arm_columns : Arm → List OuterColumn
 arm_columns arm = expr_columns arm.condition ++ expr_columns arm.value
 
-abbrev pub step_columns : ChainStep → List Column
+abbrev pub step_columns : ChainStep → List OuterColumn
 step_columns step = expr_columns step.part
 
-abbrev pub all_parts_columns : List Expr → List Column
+abbrev pub all_parts_columns : List Expr → List OuterColumn
 all_parts_columns parts = flat_map expr_columns parts
 
-abbrev pub all_steps_columns : List ChainStep → List Column
+abbrev pub all_steps_columns : List ChainStep → List OuterColumn
 all_steps_columns steps = flat_map step_columns steps
 
-abbrev pub all_arms_columns : List Arm → List Column
+abbrev pub all_arms_columns : List Arm → List OuterColumn
 all_arms_columns arms = flat_map arm_columns arms
 
 pub parts_columns-row_of_parts : (parts : List Expr) → parts_columns (row_of_parts parts) ≡ all_parts_columns parts
@@ -74,10 +74,10 @@ columns-Same first second = ap expr_columns (Same-is first second)
 
 -- ---- queries
 
-abbrev pub sub_columns : Sublink → List Column
+abbrev pub sub_columns : Sublink → List OuterColumn
 sub_columns sub = option_columns sub.tested ++ columns_of sub.query
 
-abbrev pub all_subs_columns : List Sublink → List Column
+abbrev pub all_subs_columns : List Sublink → List OuterColumn
 all_subs_columns subs = flat_map sub_columns subs
 
 pub subs_columns-row_of_subs : (subs : List Sublink) → subs_columns (row_of_subs subs) ≡ all_subs_columns subs

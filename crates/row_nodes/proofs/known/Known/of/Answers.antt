@@ -1,8 +1,8 @@
 use Rattle.std.proofs.Common.{List, ℕ, [], refl, ap, ◌∙◌}
 use Rattle.std.specs.List.{range_with_len}
 use Rattle.row_nodes.specs.memory.Memory.{Remembered, remembered}
-use Rattle.row_nodes.specs.declared.known.Answer.{Answer}
-use Rattle.row_nodes.specs.declared.known.Answer.TheVariants.{Nothing}
+use Rattle.row_nodes.specs.declared.known.KnownAnswer.{KnownAnswer}
+use Rattle.row_nodes.specs.declared.known.KnownAnswer.TheVariants.{Nothing}
 use Rattle.row_nodes.specs.declared.known.Keyed.{Keyed}
 use Rattle.row_nodes.specs.declared.known.Known.{Known}
 use Rattle.row_nodes.proofs.Kept.{known_new}
@@ -18,7 +18,7 @@ returns-clause-knows c = λ db env in_cells.
 pub returns-clause-fresh : goal.returns-clause-fresh
 returns-clause-fresh c = record {
   keeping_is = c.kept_of-keeping.ensures;
-  entries_are = ap (λ (m : Remembered Answer). m.entries) c.new-memory.ensures;
+  entries_are = ap (λ (m : Remembered KnownAnswer). m.entries) c.new-memory.ensures;
   inputs_are = ap (λ (m : Remembered Keyed). m.entries) c.new-inputs.ensures;
   nothing_is = refl;
 }

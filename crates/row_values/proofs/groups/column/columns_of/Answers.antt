@@ -2,7 +2,7 @@ use Rattle.std.proofs.Common.{take, refl, sym, subst}
 use Rattle.std.specs.List.{AllZip}
 use Rattle.perm_values.proofs.Lists.{taken}
 use Rattle.row_values.proofs.Outcomes.{handed_on}
-use Rattle.row_values.specs.Columns.{IsColumn}
+use Rattle.row_values.specs.Columns.{IsAggregateColumn}
 use Rattle.row_values.proofs.ClassRows.{argument_refuses, zip-more}
 use Rattle.row_values.proofs.groups.column.columns_of.Goals as goal
 
@@ -15,7 +15,7 @@ returns-in_err-values-clause-err c =
 pub loop-aggregate-preserved : goal.loop-aggregate-preserved
 loop-aggregate-preserved c =
     let more = taken c.args.aggregates.now c.loop-aggregate.aggregate-index c.aggregate-item.result c.loop-aggregate-test.true c.aggregate-item.is in
-    subst (λ l. AllZip (IsColumn c.args.env.now c.args.rows.now c.args.numbers.now c.args.count) l c.push.new.self) (sym more)
+    subst (λ l. AllZip (IsAggregateColumn c.args.env.now c.args.rows.now c.args.numbers.now c.args.count) l c.push.new.self) (sym more)
     (rw c.in_ok-push.ensures.ok
-    (zip-more (IsColumn c.args.env.now c.args.rows.now c.args.numbers.now c.args.count) (take c.loop-aggregate.aggregate-index c.args.aggregates.now) c.loop-aggregate.columns _ _
+    (zip-more (IsAggregateColumn c.args.env.now c.args.rows.now c.args.numbers.now c.args.count) (take c.loop-aggregate.aggregate-index c.args.aggregates.now) c.loop-aggregate.columns _ _
     c.loop-aggregate.invariant (record { function = refl; distributed = c.in_ok-values.ensures.ok })))

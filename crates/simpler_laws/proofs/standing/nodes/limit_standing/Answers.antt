@@ -5,7 +5,7 @@ use Rattle.bag_algebra.specs.declared.query.Query.TheVariants.{Limit}
 use Rattle.query_laws.proofs.StandingNodes.{stands-Limit}
 use Rattle.contribution.proofs.NodeQueries.{of_made}
 use Rattle.perm_values.proofs.Taken.{opened}
-use Rattle.simpler_laws.specs.standing.Made.{IsMade}
+use Rattle.simpler_laws.specs.standing.Made.{IsMadeOf}
 use Rattle.simpler_laws.proofs.standing.nodes.limit_standing.Goals as goal
 
 pub returns-clause-stands : goal.returns-clause-stands
@@ -19,7 +19,7 @@ returns-clause-stands c q h =
 pub returns-clause-made : goal.returns-clause-made
 returns-clause-made c =
     let given = c.in_ok-input.ensures in
-    of_made (λ p. IsMade c.args.input (λ b. Limit b c.args.keys.now c.args.count) p) c.limit.result _ c.limit.ensures
+    of_made (λ p. IsMadeOf c.args.input (λ b. Limit b c.args.keys.now c.args.count) p) c.limit.result _ c.limit.ensures
     (record {
       input = c.in_ok-input.input;
       was = given.first_was;

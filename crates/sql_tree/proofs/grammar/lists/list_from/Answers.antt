@@ -2,12 +2,12 @@ use Rattle.std.proofs.Common.{◌≡◌, ◌≤◌, true, List, [], ◌∷◌, l
 use Rattle.std.proofs.lemmas.Result.{err_from_is_err_and}
 use Rattle.sql_lexer.specs.declared.token.Token.{Token}
 use Rattle.sql_tree.specs.grammar.Cursors.{Reads, sees, past}
-use Rattle.sql_tree.specs.grammar.Descent.{Outcome, Taken}
+use Rattle.sql_tree.specs.grammar.Descent.{Parsed, Taken}
 use Rattle.sql_tree.specs.grammar.Lists.{more_listed}
 use Rattle.sql_tree.proofs.Listing.{Keeps, Amid-next, Amid-stopped, Amid-done, fails-on}
 use Rattle.sql_tree.proofs.grammar.lists.list_from.Goals as goal
 
-keeps_of : {X : Type 0} (reading : List Token → Outcome Token X) →
+keeps_of : {X : Type 0} (reading : List Token → Parsed Token X) →
     ((old : List Token) (x : X) (new : List Token) → reading old ≡ Taken x new → length new ≤ length old) → Keeps reading
 keeps_of reading fewer = record { fewer = fewer }
 

@@ -2,12 +2,12 @@ use Rattle.std.proofs.Common.{◌≡◌, ◌<◌, true, List, length, Err, arith
 use Rattle.std.proofs.lemmas.Result.{err_from_is_err_and}
 use Rattle.sql_lexer.specs.declared.token.Token.{Token}
 use Rattle.sql_tree.specs.grammar.Cursors.{Reads, sees}
-use Rattle.sql_tree.specs.grammar.Descent.{Outcome, Taken}
+use Rattle.sql_tree.specs.grammar.Descent.{Parsed, Taken}
 use Rattle.sql_tree.specs.grammar.Lists.{all_of}
 use Rattle.sql_tree.proofs.Listing.{Takes, Within-next, Within-stopped, Within-done, fails-on}
 use Rattle.sql_tree.proofs.grammar.repeats.all_items.Goals as goal
 
-takes_of : {X : Type 0} (reading : List Token → Outcome Token X) →
+takes_of : {X : Type 0} (reading : List Token → Parsed Token X) →
     ((old : List Token) (x : X) (new : List Token) → reading old ≡ Taken x new → length new < length old) → Takes reading
 takes_of reading fewer = record { fewer = fewer }
 

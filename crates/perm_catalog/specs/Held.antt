@@ -11,5 +11,5 @@ pub record IsHeldTable (c : Contents) (id : ℕ) (kinds : List Kind) : Type 0 wh
   pub name : List ℕ
   pub table : TableEntry
   pub named : table_named c name ≡ Some table
-  pub same : table.id ≡ id
+  pub id_is : table.id ≡ id
   pub kinds_are : column_kinds table.columns ≡ kinds

@@ -1,6 +1,6 @@
 use Rattle.bag_algebra.specs.built.Patterns.{ProvOf}
 use Rattle.stored_provenance.proofs.NewMarks.{new-sound, kept-fresh}
-use Rattle.stored_provenance.proofs.laws.a_new_mark_is_sound.Goals as goal
+use Rattle.stored_provenance.proofs.laws.a_new_stored_query_is_sound.Goals as goal
 
 pub returns : goal.returns
 returns c = λ held columns rows input places sound closed reads kinds within same.
