@@ -13,15 +13,20 @@ use Rattle.name_meaning.specs.declared.rule.Rule.TheVariants as rule
 limit-of : Option (ℕ × ℕ) → List Break
 limit-of query = option_map_or (λ (query : ℕ × ℕ). broken rule.TooManyColumns query.0 ∷ []) query []
 
+-- the first decides, or the others do
+first-decides : (b : Bool) (query : ℕ × ℕ) (queries : List (ℕ × ℕ)) → is_wide query.1 ≡ b
+    → width_limit (query ∷ queries) ≡ limit-of (cond b (Some query) (find (λ (q : ℕ × ℕ). nat_lt most_query_columns q.1) queries))
+unfolding limit-of
+first-decides b query queries e =
+    ap (λ (b : Bool). limit-of (cond b (Some query) (find (λ (q : ℕ × ℕ). nat_lt most_query_columns q.1) queries))) e
+
 pub narrow-first : (query : ℕ × ℕ) (queries : List (ℕ × ℕ)) → is_wide query.1 ≡ false → width_limit (query ∷ queries) ≡ width_limit queries
 unfolding limit-of
-narrow-first query queries e =
-    ap (λ (b : Bool). limit-of (cond b (Some query) (find (λ (q : ℕ × ℕ). nat_lt most_query_columns q.1) queries))) e
+narrow-first = first-decides false
 
 pub wide-first : (query : ℕ × ℕ) (queries : List (ℕ × ℕ)) → is_wide query.1 ≡ true → width_limit (query ∷ queries) ≡ broken rule.TooManyColumns query.0 ∷ []
 unfolding limit-of
-wide-first query queries e =
-    ap (λ (b : Bool). limit-of (cond b (Some query) (find (λ (q : ℕ × ℕ). nat_lt most_query_columns q.1) queries))) e
+wide-first = first-decides true
 
 pub narrow-step : (queries : List (ℕ × ℕ)) (i : ℕ) (query : ℕ × ℕ) → i < length queries → query ≡ get_or queries i query → is_wide query.1 ≡ false
     → width_limit (drop i queries) ≡ width_limit (drop (i + 1) queries)
