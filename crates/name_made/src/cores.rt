@@ -17,8 +17,8 @@ use crate::expressions::made;
 use crate::sources::sources_made;
 use bag_algebra::{Aggr, Item, Query};
 use name_made_parts::{
-    MadeCondition, add_star, add_table_star, behind_aggregates, clauses_of, groups_of, item_kind, kept_of,
-    listed_of, nothing_kept, scope_grouped, scope_or_none,
+    MadeCondition, add_star, add_table_star, behind_aggregates, clauses_of, groups_of, item_kind,
+    kept_of, listed_of, nothing_kept, scope_grouped, scope_or_none,
 };
 use name_meaning::{Clauses, Condition, Listed, Scope, Within, add_value, beside, core_of};
 use name_seen_cores::in_clause;

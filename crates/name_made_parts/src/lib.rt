@@ -11,10 +11,10 @@ mod standing;
 mod stars;
 
 pub use asked::{
-    MadeCondition, alike_behind, alike_of_all, alike_of_arms, alike_of_case, alike_of_three, alike_of_two,
-    behind_aggregates, chain_kinds, clauses_of, groups_of, item_kind, kept_of, kind_or_any,
-    limit_keys, listed_of, nothing_kept, scalar_kind, scope_grouped, scope_or_none, shown_names,
-    tested_kind,
+    MadeCondition, alike_behind, alike_of_all, alike_of_arms, alike_of_case, alike_of_three,
+    alike_of_two, behind_aggregates, chain_kinds, clauses_of, groups_of, item_kind, kept_of,
+    kind_or_any, limit_keys, listed_of, nothing_kept, scalar_kind, scope_grouped, scope_or_none,
+    shown_names, tested_kind,
 };
 pub use keys::keys_of;
 pub use scoping::segment;

@@ -92,7 +92,11 @@ fn beside_candidates(
 }
 
 /// The base's columns stand behind the rows', and in the rewriting behind the sublink's own.
-fn candidate_columns(rows: &Query, base: &Query, standing: &Sublink) -> Result<CandidateColumns, NoMemory>
+fn candidate_columns(
+    rows: &Query,
+    base: &Query,
+    standing: &Sublink,
+) -> Result<CandidateColumns, NoMemory>
     ensures count { IfOk result (λ columns. columns.count ≡ width_of base.now) }
     ensures from { IfOk result (λ columns. columns.from ≡ width_of rows.now) }
     ensures own { IfOk result (λ columns. columns.own ≡ width_of standing.now.query) }

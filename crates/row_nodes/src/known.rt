@@ -107,7 +107,12 @@ impl<'a> Known<'a> {
     }
 
     /// Keeps what was found on the row at hand, which is of so many rows. It fails only for want of memory.
-    pub fn keep(&mut self, alloc: Global, rows: usize, answer: KnownAnswer<'a>) -> Result<(), NoMemory>
+    pub fn keep(
+        &mut self,
+        alloc: Global,
+        rows: usize,
+        answer: KnownAnswer<'a>,
+    ) -> Result<(), NoMemory>
         ensures knows { (db : Database) (env : ListOf SeenRow) (row : SeenRow) (q : SeenQuery)
             (in_cells : Bool) → Knows db env q in_cells self.old →
             picked self.old.memory.places row ≡ self.old.memory.key →
@@ -208,7 +213,11 @@ pub fn known_subs<'a>(
 
 /// What answers for a query with these rows: where a value among their first columns is asked for, a table of these. It fails
 /// only for want of memory.
-pub fn same_rows<'a>(alloc: Global, in_cells: bool, rows: Input<'a>) -> Result<KnownAnswer<'a>, NoMemory>
+pub fn same_rows<'a>(
+    alloc: Global,
+    in_cells: bool,
+    rows: Input<'a>,
+) -> Result<KnownAnswer<'a>, NoMemory>
     ensures has { IfOk result (HasRows in_cells rows.entry) }
     ensures some { IfOk result (λ answer. is_nothing answer ≡ false) }
 {

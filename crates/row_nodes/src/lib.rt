@@ -19,7 +19,7 @@ pub use input::{Input, made, single_row, table_rows};
 pub use items::item_values;
 pub use join::{hashed_pairs, meets_by_keys, more_met, tries_by_keys};
 pub use keeping::Keeping;
-pub use known::{KnownAnswer, Keyed, Known, cells_value, known_subs, same_rows, tests_equality};
+pub use known::{Keyed, Known, KnownAnswer, cells_value, known_subs, same_rows, tests_equality};
 pub use limit::limited;
 pub use results::{
     Screened, distinct_rows, except_rows, group_rows, intersect_rows, kept_rows, limit_rows,

@@ -9,7 +9,10 @@ use perm_values::{List, NoMemory};
 
 /// Those of the expression.
 #[cycle(expr_columns)]
-pub(crate) fn expr_columns(expr: &Expr, found: List<OuterColumn>) -> Result<List<OuterColumn>, NoMemory>
+pub(crate) fn expr_columns(
+    expr: &Expr,
+    found: List<OuterColumn>,
+) -> Result<List<OuterColumn>, NoMemory>
     ensures { IfOk result (λ columns. columns ≡ found ++ expr_columns expr.now) }
 {
     match expr {
@@ -46,7 +49,10 @@ fn parts_columns(parts: &[Expr], found: List<OuterColumn>) -> Result<List<OuterC
 }
 
 #[cycle(expr_columns)]
-fn steps_columns(steps: &[ChainStep], found: List<OuterColumn>) -> Result<List<OuterColumn>, NoMemory>
+fn steps_columns(
+    steps: &[ChainStep],
+    found: List<OuterColumn>,
+) -> Result<List<OuterColumn>, NoMemory>
     ensures { IfOk result (λ columns. columns ≡ found ++ all_steps_columns steps.now) }
 {
     let mut columns = found;
@@ -68,7 +74,11 @@ fn arms_columns(arms: &[Arm], found: List<OuterColumn>) -> Result<List<OuterColu
     Ok(columns)
 }
 
-fn with_column(level: usize, place: usize, found: List<OuterColumn>) -> Result<List<OuterColumn>, NoMemory>
+fn with_column(
+    level: usize,
+    place: usize,
+    found: List<OuterColumn>,
+) -> Result<List<OuterColumn>, NoMemory>
     ensures { IfOk result (λ columns. columns ≡ found ++ column_at level place ∷ []) }
 {
     let mut columns = found;
@@ -90,7 +100,10 @@ pub(crate) fn option_columns(
 }
 
 /// Those of all items.
-pub(crate) fn items_columns(items: &[Item], found: List<OuterColumn>) -> Result<List<OuterColumn>, NoMemory>
+pub(crate) fn items_columns(
+    items: &[Item],
+    found: List<OuterColumn>,
+) -> Result<List<OuterColumn>, NoMemory>
     ensures { IfOk result (λ columns. columns ≡ found ++ items_columns items.now) }
 {
     let mut columns = found;

@@ -117,7 +117,10 @@ fn subs_columns(
 }
 
 /// Of the columns those of the rows behind the nearest, as they are seen from there, behind what was found before.
-fn with_behind(found: List<OuterColumn>, columns: &[OuterColumn]) -> Result<List<OuterColumn>, NoMemory>
+fn with_behind(
+    found: List<OuterColumn>,
+    columns: &[OuterColumn],
+) -> Result<List<OuterColumn>, NoMemory>
     ensures { IfOk result (λ more. more ≡ found ++ behind columns.now) }
 {
     let mut more = found;
@@ -127,7 +130,11 @@ fn with_behind(found: List<OuterColumn>, columns: &[OuterColumn]) -> Result<List
     Ok(more)
 }
 
-fn with_nearer(found: List<OuterColumn>, level: usize, place: usize) -> Result<List<OuterColumn>, NoMemory>
+fn with_nearer(
+    found: List<OuterColumn>,
+    level: usize,
+    place: usize,
+) -> Result<List<OuterColumn>, NoMemory>
     ensures { IfOk result (λ more. more ≡ found ++ one_nearer level place) }
 {
     let mut more = found;
