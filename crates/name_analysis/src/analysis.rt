@@ -50,7 +50,7 @@ fn behind_names(alloc: Global, catalog: &Catalog, statement: Statement) -> Resul
             table,
             file,
             header,
-            mark: null_field,
+            null_field,
         } => copy(alloc, catalog, table, file, header, null_field),
         StatementBody::Insert { table, rows } => insert(alloc, catalog, table, rows),
         StatementBody::Delete { table, condition } => delete(alloc, catalog, table, condition),

@@ -98,9 +98,9 @@ plain-over at m order limit =
     over-pair (held_query whole) (held_alone at whole) (held_query m)
     (λ none. (λ i. none i ++ front-none m.breaks (keys_breaks m.columns order) none i)) (λ none. refl)
 
-proved-over : (at : ℕ) (m : QueryMeant) (order : List OrderTree) (limit : Option ℤ) (query : Query)
+with_provenance-over : (at : ℕ) (m : QueryMeant) (order : List OrderTree) (limit : Option ℤ) (query : Query)
     → IsOver (held_query (query_with_provenance at m order limit query)) (held_alone at (query_with_provenance at m order limit query) ∷ held_query m ∷ [])
-proved-over at m order limit query =
+with_provenance-over at m order limit query =
     let whole = query_with_provenance at m order limit query in
     over-pair (held_query whole) (held_alone at whole) (held_query m)
     (λ none. (λ i. none i ++ front-none m.breaks (keys_breaks m.columns order) none i)) (λ none. refl)
@@ -117,7 +117,7 @@ seen-over around at body order limit = chosen (asks_provenance around body) wher
       ∷ held_query (body.means around) ∷ [])
   chosen true =
       let m = body.means around in
-      proved-over at m order limit (limited limit (keys_of m.columns order) (m.make []))
+      with_provenance-over at m order limit (limited limit (keys_of m.columns order) (m.make []))
   chosen false = plain-over at (body.means around) order limit
 
 pub query-adds : (c : Contents) (around : Around) (tree : QueryTree) (width : ℕ) (old middle new : Gathered)

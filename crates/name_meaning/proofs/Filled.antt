@@ -308,8 +308,8 @@ shown-chain around left (step ∷ steps) h =
     let right : QueryMeant = step.operand.means (may_not_ask around) in
     shown-chain around (set_joined left step right) steps (shown-so_far left.columns right.columns h)
 
-shown-proved : (body : QueryMeant) (query : Query) → Shown body.columns → Shown (columns_with_provenance body query)
-shown-proved body query h = chosen (is_whole body.breaks) where
+shown-with_provenance : (body : QueryMeant) (query : Query) → Shown body.columns → Shown (columns_with_provenance body query)
+shown-with_provenance body query h = chosen (is_whole body.breaks) where
   chosen : (b : Bool) → Shown (cond b (option_map (λ columns. columns ++ provenance_columns query) body.columns) body.columns)
   chosen true =
       shown-under (λ (columns : List OutColumn). columns ++ provenance_columns query) (λ columns. filled-append columns (provenance_columns query)) body.columns h
@@ -324,5 +324,5 @@ shown-query_seen around at body order limit h = chosen (asks_provenance around b
       (plain_query at (body.means around) order limit)).columns
   chosen true =
       let m : QueryMeant = body.means around in
-      shown-proved m (limited limit (keys_of m.columns order) (m.make [])) (h around)
+      shown-with_provenance m (limited limit (keys_of m.columns order) (m.make [])) (h around)
   chosen false = h around

@@ -21,7 +21,7 @@ use Rattle.name_meaning.proofs.FactsOf.{facts-Prov, facts-set, facts-limited}
 use Rattle.name_meaning.proofs.Kept.{GoodQuery}
 use Rattle.name_meaning.proofs.NamedPlaces.{IsNamed, AreNamed, length-place_names}
 use Rattle.name_meaning.proofs.SettledKinds.{settle-united, settle-known, kinds-named_columns}
-use Rattle.name_meaning.proofs.KindsOf.{kinds-set, kinds-limited, columns-joined, known-proved}
+use Rattle.name_meaning.proofs.KindsOf.{kinds-set, kinds-limited, columns-joined, known-with_provenance}
 
 -- ---- set operations
 
@@ -89,9 +89,9 @@ module _ (Sound : Type 0) where
   -- ---- PROVENANCE
 
   -- the columns of the places, whose kinds are known
-  kinds-proved : (columns : List OutColumn) (places : List Place) (wanted : List Kind) → AreNamed places
+  kinds-with_provenance : (columns : List OutColumn) (places : List Place) (wanted : List Kind) → AreNamed places
       → settle (columns ++ map out_column (named_columns (place_names places) (place_kinds places))) wanted ≡ settle columns wanted ++ place_kinds places
-  kinds-proved columns places wanted named =
+  kinds-with_provenance columns places wanted named =
       settle-known columns (named_columns (place_names places) (place_kinds places)) wanted
       ∙ ap (λ (kinds : List Kind). settle columns wanted ++ kinds) (kinds-named_columns (place_names places) (place_kinds places) (length-place_names places named))
 
@@ -110,11 +110,11 @@ module _ (Sound : Type 0) where
             let inner = good.known sound body_whole in
             record {
               columns = inner.columns ++ provenance_columns (query []);
-              known = known-proved body (query []) inner.columns body_whole inner.known;
+              known = known-with_provenance body (query []) inner.columns body_whole inner.known;
               kinds = λ wanted.
                   kinds_of-Prov (query wanted)
                   ∙ (λ i. (kinds-limited limit keys (body.make wanted) ∙ inner.kinds wanted) i ++ place_kinds (steady wanted [] i).places)
-                  ∙ sym (kinds-proved inner.columns (shape (query [])) wanted (named sound));
+                  ∙ sym (kinds-with_provenance inner.columns (shape (query [])) wanted (named sound));
             };
         steady = λ w v. facts-Prov (query w) ∙ sym (facts-Prov (query v));
         named = λ sound w. subst (λ (facts : Facts). AreNamed facts.places) (sym (facts-Prov (query w))) tt;

@@ -46,9 +46,9 @@ with_known columns rest = elim columns [
 pub columns-joined : (l r : Option (List OutColumn)) (left right : List OutColumn) → l ≡ Some left → r ≡ Some right → columns_so_far l r ≡ Some (united_columns left right)
 columns-joined l r left right e f = λ i. columns_so_far (e i) (f i)
 
-pub known-proved : (body : QueryMeant) (query : Query) (columns : List OutColumn) → body.breaks ≡ [] → body.columns ≡ Some columns
+pub known-with_provenance : (body : QueryMeant) (query : Query) (columns : List OutColumn) → body.breaks ≡ [] → body.columns ≡ Some columns
     → columns_with_provenance body query ≡ Some (columns ++ provenance_columns query)
-known-proved body query columns whole known =
+known-with_provenance body query columns whole known =
     ap (λ (breaks : List Break). cond (is_whole breaks) (option_map (λ (own : List OutColumn). own ++ provenance_columns query) body.columns) body.columns) whole
     ∙ ap (option_map (λ (own : List OutColumn). own ++ provenance_columns query)) known
 

@@ -215,13 +215,13 @@ good-plain around at body order limit fits good =
           (keys_of-in body order known (back-none body.breaks own whole));
     }
 
-width-proved : (query : Query) → width_of (Prov query) ≡ width_of query + length (place_kinds (shape query))
-width-proved query = ap length (kinds_of-Prov query) ∙ length-append (kinds_of query) (place_kinds (shape query))
+width-with_provenance : (query : Query) → width_of (Prov query) ≡ width_of query + length (place_kinds (shape query))
+width-with_provenance query = ap length (kinds_of-Prov query) ∙ length-append (kinds_of query) (place_kinds (shape query))
 
-good-proved : (around : Around) (at : ℕ) (body : QueryMeant) (order : List OrderTree) (limit : Option ℤ) → IfThere IsTokenNumber limit
+good-with_provenance : (around : Around) (at : ℕ) (body : QueryMeant) (order : List OrderTree) (limit : Option ℤ) → IfThere IsTokenNumber limit
     → GoodBodyMeant around body
     → GoodQueryMeant around (query_with_provenance at body order limit (limited limit (keys_of body.columns order) (body.make [])))
-good-proved around at body order limit fits good =
+good-with_provenance around at body order limit fits good =
     let own : List Break = keys_breaks body.columns order in
     let keys : List Key = keys_of body.columns order in
     let query : List Kind → Query = λ w. limited limit keys (body.make w) in
@@ -234,13 +234,13 @@ good-proved around at body order limit fits good =
           by (sym (WellFormed-Prov rows (query wanted)))
           (formed-body body order limit (good.known first) rows wanted fits (good.formed first rows hold wanted) (back-none body.breaks own whole));
       places = λ whole.
-          let all = width-proved (query []) in
+          let all = width-with_provenance (query []) in
           let columns = width (front-none body.breaks own whole) [] in
           range-in (count_columns body.columns) (length (place_kinds (shape (query [])))) (width_of (Prov (query []))) (omega (arith, all, columns));
       keys = λ whole wanted.
           let first = front-none body.breaks own whole in
           let known = good.known first in
-          let all = width-proved (query wanted) in
+          let all = width-with_provenance (query wanted) in
           let columns : width_of (query wanted) ≡ length known.columns =
           ap length (kinds-limited limit keys (body.make wanted)) ∙ width-made body known wanted in
           keys-wider (length known.columns) (width_of (Prov (query wanted))) keys (omega (arith, all, columns))
@@ -254,7 +254,7 @@ good-query_seen around at body order limit fits good = chosen (asks_provenance a
       (query_with_provenance at (body.means around) order limit
       (limited limit (keys_of (body.means around).columns order) ((body.means around).make [])))
       (plain_query at (body.means around) order limit))
-  chosen true = moved (good-proved around at (body.means around) order limit fits (good around)) where
+  chosen true = moved (good-with_provenance around at (body.means around) order limit fits (good around)) where
     moved : {m : QueryMeant} → GoodQueryMeant around m → GoodQueryMeant around m
     moved g = record { formed = g.formed; places = g.places; keys = g.keys }
   chosen false = good-plain around at (body.means around) order limit fits (good around)

@@ -28,12 +28,12 @@ pub enum Resolved {
         name: Chars,
         entry: ViewEntry,
     },
-    /// `header`: whether the first record is none of the rows; `mark`: the field that stands for NULL.
+    /// `header`: whether the first record is none of the rows; `null_field`: the field that stands for NULL.
     Copy {
         name: Chars,
         kinds: List<Kind>,
         file: Chars,
-        mark: Chars,
+        null_field: Chars,
         header: bool,
     },
     Insert {

@@ -31,7 +31,7 @@ use Rattle.name_seen_cores.specs.from.Queried.{ColumnsSeen, ColumnsWhole, QueryW
 use Rattle.name_seen_cores.specs.declared.from.facts.Facts.{Facts as Gathered}
 use Rattle.name_seen_cores.specs.declared.from.shown.QueryShown.{QueryShown}
 use Rattle.name_seen_cores.specs.Behind.{OperandUnited, PlacesBehind, query_behind}
-use Rattle.name_meaning.proofs.KindsOf.{columns-joined, known-proved}
+use Rattle.name_meaning.proofs.KindsOf.{columns-joined, known-with_provenance}
 
 -- ---- set operations
 
@@ -146,18 +146,18 @@ plain-whole at body order limit none facts columns empty is fine kinds =
 abbrev columns_at : List Place → List OutColumn
 columns_at places = map out_column (named_columns (place_names places) (place_kinds places))
 
-proved-whole : (at : ℕ) (body : QueryMeant) (order : List OrderTree) (limit : Option ℤ) (none facts : Gathered) (columns : List ShownColumn) (shown : QueryShown)
+with_provenance-whole : (at : ℕ) (body : QueryMeant) (order : List OrderTree) (limit : Option ℤ) (none facts : Gathered) (columns : List ShownColumn) (shown : QueryShown)
     → facts_in none ≡ no_facts → ColumnsWhole body none facts columns → keys_breaks (Some (columns_of columns)) order ≡ []
     → ((query_behind true at body order limit).breaks ≡ [] → HasItsKinds (query_behind true at body order limit))
     → PlacesBehind columns facts shown → QueryWhole (query_behind true at body order limit) shown
-proved-whole at body order limit none facts columns shown empty is fine kinds behind =
+with_provenance-whole at body order limit none facts columns shown empty is fine kinds behind =
     let keys : List Key = keys_of body.columns order in
     let query : Query = limited limit keys (body.make []) in
     let whole : (query_behind true at body order limit).breaks ≡ [] =
     both-none body.breaks (keys_breaks body.columns order) is.whole (keys-are body (columns_of columns) order is.known ∙ fine) in
     let places : facts.places ≡ shape query = ap (λ (f : Facts). f.places) (body-facts body none facts columns limit keys [] empty is) in
     let known : columns_with_provenance body query ≡ Some (columns_of shown.columns) =
-    known-proved body query (columns_of columns) is.whole is.known
+    known-with_provenance body query (columns_of columns) is.whole is.known
     ∙ ap Some (ap (λ (ps : List Place). columns_of columns ++ columns_at ps) (sym places) ∙ sym behind.shown) in
     let count : option_map_or length body.columns 0 ≡ length columns =
     ap (λ (cs : Option (List OutColumn)). option_map_or length cs 0) is.known ∙ length-map columns column_of in
@@ -166,7 +166,7 @@ proved-whole at body order limit none facts columns shown empty is fine kinds be
       known = known;
       kinds = kinds-are (query_behind true at body order limit) (columns_of shown.columns) (kinds whole) known;
       places = (λ i. Some (range_with_len (count i) (length (place_kinds (sym places i))))) ∙ sym behind.places;
-      facts = λ wanted. behind.proved ∙ sym (facts-Prov (limited limit keys (body.make wanted)));
+      facts = λ wanted. behind.none_traced ∙ sym (facts-Prov (limited limit keys (body.make wanted)));
     }
 
 -- ---- as a query asks for its provenance or not
@@ -179,10 +179,10 @@ plain-so true at body order limit none facts columns e empty is fine kinds = abs
 plain-so false at body order limit none facts columns e empty is fine kinds =
     plain-whole at body order limit none facts columns empty is (none-broken (keys_breaks (Some (columns_of columns)) order) tt tt fine) kinds
 
-pub proved-so : (asking : Bool) (at : ℕ) (body : QueryMeant) (order : List OrderTree) (limit : Option ℤ) (none facts : Gathered) (columns : List ShownColumn) (shown : QueryShown)
+pub with_provenance-so : (asking : Bool) (at : ℕ) (body : QueryMeant) (order : List OrderTree) (limit : Option ℤ) (none facts : Gathered) (columns : List ShownColumn) (shown : QueryShown)
     → asking ≡ true → facts_in none ≡ no_facts → ColumnsWhole body none facts columns → first_or (keys_breaks (Some (columns_of columns)) order) (tt {0}) ≡ Ok (tt {0})
     → ((query_behind asking at body order limit).breaks ≡ [] → HasItsKinds (query_behind asking at body order limit))
     → PlacesBehind columns facts shown → QueryWhole (query_behind asking at body order limit) shown
-proved-so true at body order limit none facts columns shown e empty is fine kinds behind =
-    proved-whole at body order limit none facts columns shown empty is (none-broken (keys_breaks (Some (columns_of columns)) order) tt tt fine) kinds behind
-proved-so false at body order limit none facts columns shown e empty is fine kinds behind = absurd (cc e)
+with_provenance-so true at body order limit none facts columns shown e empty is fine kinds behind =
+    with_provenance-whole at body order limit none facts columns shown empty is (none-broken (keys_breaks (Some (columns_of columns)) order) tt tt fine) kinds behind
+with_provenance-so false at body order limit none facts columns shown e empty is fine kinds behind = absurd (cc e)

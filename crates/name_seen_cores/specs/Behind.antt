@@ -75,4 +75,4 @@ query_behind true at body order limit = query_with_provenance at body order limi
 pub record PlacesBehind (columns : List ShownColumn) (facts : Gathered) (query : QueryShown) : Type 0 where
   pub shown : columns_of query.columns ≡ columns_of columns ++ map out_column (named_columns (place_names facts.places) (place_kinds facts.places))
   pub places : query.places ≡ Some (range_with_len (length columns) (length (place_kinds facts.places)))
-  pub proved : facts_in query.facts ≡ no_facts
+  pub none_traced : facts_in query.facts ≡ no_facts

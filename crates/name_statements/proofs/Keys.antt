@@ -83,10 +83,10 @@ plain-keys : (at : ℕ) (body : QueryMeant) (order : List OrderTree) (limit : Op
     → (plain_query at body order limit).columns ≡ Some columns → map (key_of columns) order ≡ (plain_query at body order limit).keys
 plain-keys at body order limit columns known = ap (λ (known : Option (List OutColumn)). keys_of known order) (sym known)
 
-proved-keys : (at : ℕ) (body : QueryMeant) (order : List OrderTree) (limit : Option ℤ) (query : Query) (columns : List OutColumn)
+with_provenance-keys : (at : ℕ) (body : QueryMeant) (order : List OrderTree) (limit : Option ℤ) (query : Query) (columns : List OutColumn)
     → (query_with_provenance at body order limit query).breaks ≡ [] → (query_with_provenance at body order limit query).columns ≡ Some columns
     → map (key_of columns) order ≡ (query_with_provenance at body order limit query).keys
-proved-keys at body order limit query columns none known =
+with_provenance-keys at body order limit query columns none known =
     of body.columns refl (sym (ap (λ (bs : List Break). cond (is_whole bs) (option_map (λ (own : List OutColumn). own ++ provenance_columns query) body.columns) body.columns)
     (front-none body.breaks (keys_breaks body.columns order) none)) ∙ known)
     (back-none body.breaks (keys_breaks body.columns order) none) where
@@ -114,7 +114,7 @@ seen-keys around at body order limit columns = chosen (asks_provenance around bo
       (plain_query at (body.means around) order limit)).keys
   chosen true none known =
       let m = body.means around in
-      proved-keys at m order limit (limited limit (keys_of m.columns order) (m.make [])) columns none known
+      with_provenance-keys at m order limit (limited limit (keys_of m.columns order) (m.make [])) columns none known
   chosen false none known = plain-keys at (body.means around) order limit columns known
 
 pub query-keys : (c : Contents) (around : Around) (tree : QueryTree) (columns : List OutColumn)

@@ -78,7 +78,7 @@ pub fn copy(
                 name: text_of(table),
                 kinds,
                 file,
-                mark: null_field,
+                null_field,
                 header,
             })
         }

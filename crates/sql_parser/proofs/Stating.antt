@@ -9,7 +9,7 @@ use Rattle.sql_tree.specs.grammar.Grammar.{build}
 use Rattle.sql_tree.specs.grammar.Lists.{listed}
 use Rattle.sql_tree.specs.grammar.built.Pieces.{passes}
 use Rattle.sql_tree.specs.grammar.built.Sequences.{both}
-use Rattle.sql_parser.specs.built.Statements.{mark_of, marked, null, statement_body, optional_statement, statements}
+use Rattle.sql_parser.specs.built.Statements.{null, null_field_of, null_seen, statement_body, optional_statement, statements}
 use Rattle.sql_tree.specs.grammar.Symbols as n
 use Rattle.sql_tree.specs.grammar.Tables.{begins}
 use Rattle.sql_tree.specs.declared.grammar.sort.Sort.TheVariants as s
@@ -18,9 +18,9 @@ use Rattle.sql_tree.specs.declared.statement.StatementBody.TheVariants as st
 use Rattle.sql_tree.proofs.Outcomes.{fused, pushed, pulled, nested, chosen}
 use Rattle.sql_tree.proofs.Steps.{reading_is, reading-keeps}
 
-pub null_mark_is : (null : Option (Bor Token)) → b.null_mark (marked null) ≡ mark_of null
-null_mark_is None = refl
-null_mark_is (Some t) = refl
+pub null_field_is : (null : Option (Bor Token)) → b.null_field (null_seen null) ≡ null_field_of null
+null_field_is None = refl
+null_field_is (Some t) = refl
 
 pub columns_is : (tokens : List Token) → reading n.Columns tokens
     ≡ and_then (past s.Opening tokens) (λ word first. and_then (listed s.Comma (reading n.Column) first) (λ list rest. mapped (λ end. list) (past s.Closing rest)))
@@ -29,7 +29,7 @@ columns_is tokens = reading_is n.Columns tokens ∙ simp (fused, pushed, pulled,
 pub copy_is : (tokens : List Token) → reading n.Copy tokens
     ≡ and_then (past s.Copy tokens) (λ word first. and_then (reading n.NameOf first) (λ table second. and_then (past s.From second) (λ from third.
     and_then (one (s.Literal ∷ []) third) (λ file fourth. and_then (passes s.Header fourth) (λ header last.
-    mapped (λ mark. st.Copy table file.spelled header (b.null_mark mark)) (null last))))))
+    mapped (λ field. st.Copy table file.spelled header (b.null_field field)) (null last))))))
 copy_is tokens = reading_is n.Copy tokens ∙ simp (fused, pushed, pulled, nested)
 
 pub insert_is : (tokens : List Token) → reading n.Insert tokens

@@ -73,9 +73,9 @@ fn columns(cursor: &mut Cursor<'_>) -> Result<List<ColumnDef>, Unread>
     Ok(columns)
 }
 
-/// The mark that stands for NULL; none is the empty one.
-fn mark_of(alloc: Global, null: Option<&Token<'_>>) -> Result<Chars, NoMemory>
-    ensures { IfOk result (λ mark. mark ≡ spelled.mark_of null.entry) }
+/// The field that stands for NULL; none is the empty one.
+fn null_field_of(alloc: Global, null: Option<&Token<'_>>) -> Result<Chars, NoMemory>
+    ensures { IfOk result (λ field. field ≡ spelled.null_field_of null.entry) }
 {
     match null {
         Some(token) => token.spelled(alloc),
@@ -85,7 +85,7 @@ fn mark_of(alloc: Global, null: Option<&Token<'_>>) -> Result<Chars, NoMemory>
 
 #[tactic(auto)]
 fn null<'a>(cursor: &mut Cursor<'a>) -> Result<Option<&'a Token<'a>>, Unread>
-    ensures given { spec.Sees spelled.marked result (spelled.null cursor.old) cursor.new }
+    ensures given { spec.Sees spelled.null_seen result (spelled.null cursor.old) cursor.new }
     ensures fewer { IfOk result (λ _. length cursor.new ≤ length cursor.old) }
 {
     if !cursor.sees(Sort::Null) {
@@ -95,7 +95,7 @@ fn null<'a>(cursor: &mut Cursor<'a>) -> Result<Option<&'a Token<'a>>, Unread>
     Ok(Some(cursor.one(&[Sort::Literal])?))
 }
 
-#[tactic(auto, using(crate::proofs::Stating::copy_is, crate::proofs::Stating::null_mark_is))]
+#[tactic(auto, using(crate::proofs::Stating::copy_is, crate::proofs::Stating::null_field_is))]
 fn copy(cursor: &mut Cursor<'_>) -> Result<StatementBody, Unread>
     ensures given { spec.Reads result (spec.reading n.Copy cursor.old) cursor.new }
     ensures fewer { IfOk result (λ _. length cursor.new < length cursor.old) }
@@ -106,13 +106,13 @@ fn copy(cursor: &mut Cursor<'_>) -> Result<StatementBody, Unread>
     let file = cursor.one(&[Sort::Literal])?;
     let header = cursor.passes(Sort::Header)?;
     let null = null(cursor)?;
-    let mark = mark_of(cursor.alloc(), null)?;
+    let null_field = null_field_of(cursor.alloc(), null)?;
     let file = file.spelled(cursor.alloc())?;
     Ok(StatementBody::Copy {
         table,
         file,
         header,
-        mark,
+        null_field,
     })
 }
 

@@ -270,7 +270,7 @@ abbrev pub RegularStatementBody : StatementBody → Type 0
 RegularStatementBody (st.CreateTable table columns) = IsFilled columns × Each RegularColumn columns
 RegularStatementBody (st.CreateTableAs table query) = RegularQuery query
 RegularStatementBody (st.CreateView view query) = RegularQuery query
-RegularStatementBody (st.Copy table file header mark) = Unit {0}
+RegularStatementBody (st.Copy table file header null_field) = Unit {0}
 RegularStatementBody (st.Insert table rows) = IsFilled rows × Each RegularRow rows
 RegularStatementBody (st.Delete table condition) = IfThere RegularExpr condition
 RegularStatementBody (st.DropTable table) = Unit {0}

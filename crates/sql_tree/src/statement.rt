@@ -31,12 +31,12 @@ pub enum StatementBody {
         view: Name,
         query: QueryTree,
     },
-    /// `header`: whether the first record is none of the rows; `mark`: the field that stands for NULL.
+    /// `header`: whether the first record is none of the rows; `null_field`: the field that stands for NULL.
     Copy {
         table: Name,
         file: Chars,
         header: bool,
-        mark: Chars,
+        null_field: Chars,
     },
     Insert {
         table: Name,

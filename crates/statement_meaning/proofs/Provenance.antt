@@ -107,8 +107,8 @@ fronts c statement answer q bag text sound regular asked_for is good given t =
     let found = found_beside q db [] bag in
     let fitting = fitting-below answer q db is (fitting-query c statement answer sound regular asked_for) in
     let same : SameBag found given.rows = holds_once-same (IsBeside q db [] bag) found given.rows (found-beside q db [] bag) given.beside in
-    let proved : meaning (ProvOf q) db [] ≡ Good found = ap (λ (p : Query). meaning p db []) (sym (Prov-is q)) ∙ meaning-good q db [] bag good in
-    let columns = first_columns [] q db [] bag found fitting good proved t in (
+    let traced : meaning (ProvOf q) db [] ≡ Good found = ap (λ (p : Query). meaning p db []) (sym (Prov-is q)) ∙ meaning-good q db [] bag good in
+    let columns = first_columns [] q db [] bag found fitting good traced t in (
       λ h. let front = columns.0 ((member_decides t bag).1 h) in (front.0, (counted found given.rows front.0 same).0 front.1, front.2),
       λ front. (member_decides t bag).0 (columns.1 (front.0, (counted found given.rows front.0 same).1 front.1, front.2)),
     )

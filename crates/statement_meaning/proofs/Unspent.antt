@@ -287,9 +287,9 @@ unspent-keys columns order = if_there (λ known. flat_map (key_break known) orde
 
 unspent-query : (around : Around) (at : ℕ) (body : BodyPart) (order : List OrderTree) (limit : Option _) → UnspentCore body → Unspent (query_seen around at body order limit).breaks
 unspent-query around at body order limit h =
-    let proved = body.means around in
+    let traced = body.means around in
     let plain = body.means around in
-    either-query (asks_provenance around body) _ _ (both proved.breaks (keys_breaks proved.columns order) (h around) (unspent-keys proved.columns order))
+    either-query (asks_provenance around body) _ _ (both traced.breaks (keys_breaks traced.columns order) (h around) (unspent-keys traced.columns order))
     (both plain.breaks (keys_breaks plain.columns order) (h around) (unspent-keys plain.columns order))
 
 -- ---- FROM

@@ -91,9 +91,9 @@ abbrev by_word : Contents → QueryTree → Bool → QueryMeant
 by_word c tree asking = cond asking (query_with_provenance tree.at (body_meant c tree.body) tree.order tree.limit (whole_query tree (body_meant c tree.body)))
     (plain_query tree.at ((set_of_tree c tree.body).means alone) tree.order tree.limit)
 
-pub proved-seen : (c : Contents) (tree : QueryTree) (at : ℕ) → HasWord at tree.body
+pub with_provenance-seen : (c : Contents) (tree : QueryTree) (at : ℕ) → HasWord at tree.body
     → query_meant c tree ≡ query_with_provenance tree.at (body_meant c tree.body) tree.order tree.limit (whole_query tree (body_meant c tree.body))
-proved-seen c tree at word = opened c tree ∙ ap (by_word c tree) (ap (λ (found : Option ℕ). is_some found) (word-at c at tree.body word))
+with_provenance-seen c tree at word = opened c tree ∙ ap (by_word c tree) (ap (λ (found : Option ℕ). is_some found) (word-at c at tree.body word))
 
 plain-seen : (c : Contents) (tree : QueryTree) → (set_of_tree c tree.body).word ≡ None
     → query_meant c tree ≡ plain_query tree.at ((set_of_tree c tree.body).means alone) tree.order tree.limit
@@ -111,7 +111,7 @@ module _ (c : Contents) (statement : Statement) (answer : Answer) (tree : QueryT
   same_query = same_answer (answer_of (query_meant c tree)) answer (sym (ap (resolved_body c) is) ∙ asked_for.is)
 
   seen : query_meant c tree ≡ query_with_provenance tree.at m tree.order tree.limit (whole_query tree m)
-  seen = proved-seen c tree at word
+  seen = with_provenance-seen c tree at word
 
   all-none : m.breaks ++ keys_breaks m.columns tree.order ≡ []
   all-none = ap (λ (q : QueryMeant). q.breaks) (sym seen) ∙ subst (λ (b : StatementBody). name_breaks c b ≡ []) is (names-whole c statement asked_for.whole)
@@ -143,9 +143,9 @@ shown-append [] more = refl
 shown-append (column ∷ own) more = ap (λ (names : List (List ℕ)). column.name ∷ names) (shown-append own more)
 
 -- the columns with those of the places, where the query is whole
-proved-names : (own : List OutColumn) (m : QueryMeant) (query : Query) → m.columns ≡ Some own → m.breaks ≡ []
+with_provenance-names : (own : List OutColumn) (m : QueryMeant) (query : Query) → m.columns ≡ Some own → m.breaks ≡ []
     → names_of (option_map_or settled_columns (columns_with_provenance m query) []) ≡ shown_names own ++ shown_names (provenance_columns query)
-proved-names own m query e none =
+with_provenance-names own m query e none =
     ap (λ (bs : List Break). names_of (option_map_or settled_columns
     (cond (is_whole bs) (option_map (λ (columns : List OutColumn). columns ++ provenance_columns query) m.columns) m.columns) [])) none
     ∙ ap (λ (columns : Option (List OutColumn)). names_of (option_map_or settled_columns (option_map (λ (known : List OutColumn). known ++ provenance_columns query) columns) [])) e
@@ -169,5 +169,5 @@ word-names c statement answer plain tree at body sound asked_for is word without
     ∙ ap (λ (q : QueryMeant). (answer_of q).names) (sym plainly) ∙ ap (λ (a : Answer). a.names) other in
     let own_query : query ≡ plain.query = ap (λ (q : QueryMeant). q.make []) (sym plainly) ∙ ap (λ (a : Answer). a.query) other in
     sym (ap (λ (a : Answer). a.names) same) ∙ ap (λ (q : QueryMeant). (answer_of q).names) shown
-    ∙ proved-names known.columns m query known.known all_none
+    ∙ with_provenance-names known.columns m query known.known all_none
     ∙ (λ i. own_names i ++ shown_names (provenance_columns (own_query i)))

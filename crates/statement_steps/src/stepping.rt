@@ -47,7 +47,7 @@ pub fn step<F: Files>(
             name,
             kinds,
             file,
-            mark: null_field,
+            null_field,
             header,
         } => {
             let file = RowFile {

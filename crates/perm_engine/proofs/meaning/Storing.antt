@@ -27,7 +27,7 @@ use Rattle.sql_tree.specs.declared.statement.StatementBody.{StatementBody}
 use Rattle.sql_tree.specs.declared.statement.StatementBody.TheVariants as st
 use Rattle.statement_meaning.proofs.Adds.{whole-adds}
 use Rattle.statement_meaning.proofs.Ready.{named-whole, names-whole, query-whole, whole-ready}
-use Rattle.statement_meaning.proofs.Words.{proved-seen, body_meant, whole_query}
+use Rattle.statement_meaning.proofs.Words.{with_provenance-seen, body_meant, whole_query}
 use Rattle.statement_meaning.specs.laws.Asks.{AsksFor, HasWord}
 use Rattle.statement_meaning.specs.laws.Freshened.{StoresFresh}
 use Rattle.statement_meaning.specs.laws.Leaving.{Leaves, TurnLeaves}
@@ -86,7 +86,7 @@ module _ (c : Contents) (statement : Statement) (table : Name) (tree : QueryTree
 some-places : (c : Contents) (tree : QueryTree) (at : ℕ) → HasWord at tree.body → (places : List ℕ) × ((query_meant c tree).places ≡ Some places)
 some-places c tree at word = (
   provenance_places (count_columns (body_meant c tree.body).columns) (whole_query tree (body_meant c tree.body)),
-  ap (λ (q : QueryMeant). q.places) (proved-seen c tree at word),
+  ap (λ (q : QueryMeant). q.places) (with_provenance-seen c tree at word),
 )
 
 -- ---- a table that stores provenance

@@ -23,7 +23,7 @@ use Rattle.name_meaning.specs.declared.rule.Rule.TheVariants as rule
 use Rattle.name_meaning.proofs.Every.{unbroken-not}
 use Rattle.name_meaning.proofs.Impacts.{later-none}
 use Rattle.statement_meaning.proofs.Ready.{names-whole}
-use Rattle.statement_meaning.proofs.Words.{plain_seen, proved-seen, body_meant, whole_query, word-proves}
+use Rattle.statement_meaning.proofs.Words.{plain_seen, with_provenance-seen, body_meant, whole_query, word-proves}
 use Rattle.statement_meaning.specs.laws.Asks.{AsksFor, HasWord, ResolvesTo, WithoutWord, with_body}
 use Rattle.perm_engine.specs.meaning.headline.Words.{asking}
 
@@ -83,7 +83,7 @@ module _ (c : Contents) (statement : Statement) (answer : Answer) (tree : QueryT
 
   limits : query_limits tree.at (query_with_provenance tree.at m tree.order tree.limit query) ≡ []
   limits =
-      subst (λ (q : QueryMeant). query_limits tree.at q ≡ []) (proved-seen c tree at word)
+      subst (λ (q : QueryMeant). query_limits tree.at q ≡ []) (with_provenance-seen c tree at word)
       (subst (λ (b : StatementBody). limit_breaks c b ≡ []) is (limits-of c statement asked_for.whole))
 
   widths : width_limit ((tree.at, count_columns (columns_with_provenance m query)) ∷ m.inside.queries) ≡ []

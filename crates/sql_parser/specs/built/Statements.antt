@@ -15,14 +15,14 @@ use Rattle.sql_tree.specs.declared.statement.Statement.{Statement}
 use Rattle.sql_tree.specs.declared.statement.StatementBody.{StatementBody}
 use Rattle.sql_tree.specs.declared.statement.StatementBody.TheVariants.{Select}
 
--- the mark that stands for NULL; none is the empty one
-abbrev pub mark_of : Option (Bor Token) → List ℕ
-mark_of None = []
-mark_of (Some t) = t.now.spelled
+-- the field that stands for NULL; none is the empty one
+abbrev pub null_field_of : Option (Bor Token) → List ℕ
+null_field_of None = []
+null_field_of (Some t) = t.now.spelled
 
-abbrev pub marked : Option (Bor Token) → Option (Word × Token)
-marked None = None
-marked (Some t) = Some (tt, t.now)
+abbrev pub null_seen : Option (Bor Token) → Option (Word × Token)
+null_seen None = None
+null_seen (Some t) = Some (tt, t.now)
 
 abbrev pub null : List Token → Parsed Token (Option (Word × Token))
 null tokens = by (optional (word s.Null then token (s.Literal ∷ []))) tokens

@@ -362,13 +362,13 @@ create_view (view_word, (view, (as_word, query))) = st.CreateView view query
 abbrev pub column_def : Name × Kind → ColumnDef
 column_def (name, kind) = record { name = name; kind = kind }
 
--- the mark that stands for NULL; none is the empty one
-abbrev pub null_mark : Option (Word × Token) → List ℕ
-null_mark None = []
-null_mark (Some (null, t)) = t.spelled
+-- the field that stands for NULL; none is the empty one
+abbrev pub null_field : Option (Word × Token) → List ℕ
+null_field None = []
+null_field (Some (null, t)) = t.spelled
 
 abbrev pub copy : Word × (Name × (Word × (Token × (Option Word × Option (Word × Token))))) → StatementBody
-copy (copy_word, (table, (from, (file, (header, null))))) = st.Copy table file.spelled (is_some header) (null_mark null)
+copy (copy_word, (table, (from, (file, (header, null))))) = st.Copy table file.spelled (is_some header) (null_field null)
 
 abbrev pub insert : Word × (Word × (Name × (Word × (ValuesRow × List (Word × ValuesRow))))) → StatementBody
 insert (insert_word, (into, (table, (values, rows)))) = st.Insert table (items rows)

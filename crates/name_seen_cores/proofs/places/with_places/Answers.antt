@@ -6,5 +6,5 @@ pub returns : goal.returns
 returns c = record {
   shown = c.in-Ok.ensures.shown;
   places = ap Some c.in-Ok.ensures.places;
-  proved = c.none.ensures;
+  none_traced = c.none.ensures;
 }
