@@ -51,8 +51,8 @@ abbrev pub kept_of : Contents → Query → List SourceVersion
 kept_of c query = flat_map (kept_read c) (each_once (tables_read query))
 
 -- what a table remembers that is made of the query now
-abbrev pub mark_of : Contents → Query → List ℕ → StoredQuery
-mark_of c query places = record { places = places; query = query; kept = kept_of c query }
+abbrev pub stored_of : Contents → Query → List ℕ → StoredQuery
+stored_of c query places = record { places = places; query = query; kept = kept_of c query }
 
 -- ---- what a table remembers is sound
 

@@ -33,7 +33,7 @@ use Rattle.perm_catalog.specs.Changes.{table_named, is_free, rows_at, with_more_
 use Rattle.perm_catalog.specs.Columns.{column_kinds}
 use Rattle.perm_catalog.specs.Contents.{Contents}
 use Rattle.perm_catalog.specs.Sound.{IsSound}
-use Rattle.perm_catalog.specs.Stored.{IsFresh, IsSoundStored, mark_of}
+use Rattle.perm_catalog.specs.Stored.{IsFresh, IsSoundStored, stored_of}
 use Rattle.perm_catalog.specs.declared.column.Column.{Column}
 use Rattle.perm_catalog.specs.declared.entries.TableEntry.{TableEntry}
 use Rattle.perm_io.specs.Found.{Found, Read, Missing, TooLong, Failed}
@@ -94,16 +94,16 @@ sorted-fit : (cmp : Row → Row → Ordering) (rows : Bag) (kinds : List Kind) �
 sorted-fit cmp rows kinds h = each-fit kinds (sorted cmp rows) (each-sorted (MadeRowFits kinds) cmp rows h)
 
 -- what is made of a query with PROVENANCE is remembered soundly, and is fresh
-abbrev pub MarkHolds : Contents → List Column → Bag → List ℕ → Query → Type 0
-MarkHolds c columns rows places query = IsSoundStored c columns rows (mark_of c query places) × IsFresh c (mark_of c query places)
+abbrev pub StoredHolds : Contents → List Column → Bag → List ℕ → Query → Type 0
+StoredHolds c columns rows places query = IsSoundStored c columns rows (stored_of c query places) × IsFresh c (stored_of c query places)
 
-abbrev pub NewMark : Type 0
-NewMark = (c : Contents) (columns : List Column) (rows : Bag) (input : Query) (places : List ℕ) → IsSound c
+abbrev pub NewStored : Type 0
+NewStored = (c : Contents) (columns : List Column) (rows : Bag) (input : Query) (places : List ℕ) → IsSound c
     → WellFormed [] (ProvOf input) → EachTable (IsHeldTable c) (ProvOf input)
     → kinds_of (ProvOf input) ≡ column_kinds columns → PlacesWithin (length columns) places
-    → SameRows (meaning (ProvOf input) (rows_in c.rows) []) (Good rows) → MarkHolds c columns rows places (ProvOf input)
+    → SameRows (meaning (ProvOf input) (rows_in c.rows) []) (Good rows) → StoredHolds c columns rows places (ProvOf input)
 
-module _ (new_mark : NewMark) (c : Contents) (sound : IsSound c) where
+module _ (new_stored : NewStored) (c : Contents) (sound : IsSound c) where
   identity : (name : List ℕ) (table : TableEntry) → table_named c name ≡ Some table → identity_of c name ≡ table.id
   identity name table e = ap (λ (o : Option TableEntry). option_map_or (λ (entry : TableEntry). entry.id) o 0) e
 
@@ -150,10 +150,10 @@ module _ (new_mark : NewMark) (c : Contents) (sound : IsSound c) where
     same-ordered = subst (λ (o : Outcome Bag). SameRows o (Good ordered)) (sym good) (same_bag-sorted (printed_cmp answer.keys) rows)
 
     pub mark-at : (there : List ℕ) → AsksAt columns answer.query there
-        → IsSoundStored c columns ordered (mark_of c answer.query there) × IsFresh c (mark_of c answer.query there)
+        → IsSoundStored c columns ordered (stored_of c answer.query there) × IsFresh c (stored_of c answer.query there)
     mark-at there at =
-        subst (MarkHolds c columns ordered there) (sym at.asks)
-        (new_mark c columns ordered at.input there sound (subst (WellFormed []) at.asks can.formed) (subst (EachTable (IsHeldTable c)) at.asks adds.held)
+        subst (StoredHolds c columns ordered there) (sym at.asks)
+        (new_stored c columns ordered at.input there sound (subst (WellFormed []) at.asks can.formed) (subst (EachTable (IsHeldTable c)) at.asks adds.held)
         (ap kinds_of (sym at.asks) ∙ adds.kinds) at.within
         (subst (λ (query : Query). SameRows (meaning query (rows_in c.rows) []) (Good ordered)) at.asks same-ordered))
 

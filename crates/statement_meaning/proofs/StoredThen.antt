@@ -16,7 +16,7 @@ use Rattle.perm_catalog.proofs.Named.{found-apart, found-here, named-changed, na
 use Rattle.perm_catalog.specs.Changes.{is_free, renewed, rows_with, rows_without, table_named, view_named, with_rows_of, with_table, without_table}
 use Rattle.perm_catalog.specs.Contents.{Contents}
 use Rattle.perm_catalog.specs.Sound.{IsSound}
-use Rattle.perm_catalog.specs.Stored.{mark_of}
+use Rattle.perm_catalog.specs.Stored.{stored_of}
 use Rattle.perm_catalog.specs.declared.column.Column.{Column}
 use Rattle.perm_catalog.specs.declared.entries.StoredQuery.{StoredQuery}
 use Rattle.perm_catalog.specs.declared.entries.TableEntry.{TableEntry}
@@ -28,17 +28,17 @@ use Rattle.statement_meaning.specs.Ready.{IsReady}
 use Rattle.statement_meaning.specs.Turns.{Accepted, counting, freshness_told, freshness_text, identity_of, show_fresh, stored_at, store_answer, with_answer}
 use Rattle.statement_meaning.proofs.Freshened.{keeps-created}
 use Rattle.statement_meaning.proofs.Leaving.{Cases, leaves, leaves-drawing, leaves-good}
-use Rattle.statement_meaning.proofs.Sounder.{NewMark, itself, known, mark-at, stored-sound}
+use Rattle.statement_meaning.proofs.Sounder.{NewStored, itself, known, mark-at, stored-sound}
 use Rattle.statement_meaning.specs.laws.Freshened.{IsStill, StoresFresh, StoresNothing, filled, written}
 use Rattle.statement_meaning.specs.laws.Leaving.{Leaves}
 use Rattle.statement_meaning.specs.laws.Sounder.{AddsSoundly}
 
 -- ---- a table that is made of a query with PROVENANCE
 
-module _ (new_mark : NewMark) (c : Contents) (at : ℕ) (name : List ℕ) (columns : List Column) (answer : Answer) (places : List ℕ) (sound : IsSound c)
+module _ (new_stored : NewStored) (c : Contents) (at : ℕ) (name : List ℕ) (columns : List Column) (answer : Answer) (places : List ℕ) (sound : IsSound c)
     (ready : IsReady c (r.CreateTableAs name columns answer (Some places))) (adds : AddsSoundly c (r.CreateTableAs name columns answer (Some places))) where
   abbrev mark : StoredQuery
-  mark = mark_of c answer.query places
+  mark = stored_of c answer.query places
 
   module _ (rows : Bag) (good : meaning answer.query (rows_in c.rows) [] ≡ Good rows) where
     abbrev ordered : Bag
@@ -52,7 +52,7 @@ module _ (new_mark : NewMark) (c : Contents) (at : ℕ) (name : List ℕ) (colum
 
     stores-fresh : StoresFresh name answer.query after
     stores-fresh =
-        let holds = mark-at new_mark c sound name columns answer (Some places) rows ready.0 ready.1 adds good places adds.asks in
+        let holds = mark-at new_stored c sound name columns answer (Some places) rows ready.0 ready.1 adds good places adds.asks in
         let none : table_named c name ≡ None = free-table (table_named c name) (view_named c name) ready.0 in
         record {
           table = made;
@@ -61,7 +61,7 @@ module _ (new_mark : NewMark) (c : Contents) (at : ℕ) (name : List ℕ) (colum
           stores = refl;
           asks = refl;
           fresh = (keeps-created c sound mark holds.0.drawn name columns ordered (Some mark) ready.0
-              (stored-sound new_mark c sound name columns answer (Some places) rows ready.0 ready.1 adds good)).stays tt holds.1;
+              (stored-sound new_stored c sound name columns answer (Some places) rows ready.0 ready.1 adds good)).stays tt holds.1;
         }
 
   pub leaves-fresh : Leaves (StoresFresh name answer.query) (asks c at (r.CreateTableAs name columns answer (Some places)))

@@ -21,7 +21,7 @@ use Rattle.csv_tables.specs.Loading.{broken_rules, spelled_rows}
 use Rattle.csv_tables.specs.declared.data_error.DataError.{DataError}
 use Rattle.perm_catalog.specs.Changes.{table_named, rows_at, with_table, with_more_rows, with_fewer_rows, with_view, without_table, without_view}
 use Rattle.perm_catalog.specs.Contents.{Contents}
-use Rattle.perm_catalog.specs.Stored.{first_changed, mark_of}
+use Rattle.perm_catalog.specs.Stored.{first_changed, stored_of}
 use Rattle.perm_catalog.specs.declared.column.Column.{Column}
 use Rattle.perm_catalog.specs.declared.entries.SourceVersion.{SourceVersion}
 use Rattle.perm_catalog.specs.declared.entries.StoredQuery.{StoredQuery}
@@ -168,7 +168,7 @@ impact c at name condition answer = on_good at (rows_before (identity_of c name)
 
 -- a query with PROVENANCE, whose provenance columns have places, is remembered with what it reads now
 abbrev pub remembered : Contents → Answer → Option (List ℕ) → Option StoredQuery
-remembered c answer places = option_map (mark_of c answer.query) places
+remembered c answer places = option_map (stored_of c answer.query) places
 
 abbrev pub with_answer : Contents → List ℕ → List Column → Answer → Option (List ℕ) → Bag → Contents
 with_answer c name columns answer places rows = with_table c name columns rows (remembered c answer places)

@@ -24,7 +24,7 @@ use Rattle.perm_catalog.specs.Columns.{column_kinds}
 use Rattle.perm_catalog.specs.Contents.{Contents}
 use Rattle.perm_catalog.specs.Lookups.{entry_of_id}
 use Rattle.perm_catalog.specs.Sound.{IsSound}
-use Rattle.perm_catalog.specs.Stored.{is_unchanged, IsFresh, IsKeptTable, IsDrawn, IsSoundStored, each_once, kept_read, kept_of, mark_of}
+use Rattle.perm_catalog.specs.Stored.{is_unchanged, IsFresh, IsKeptTable, IsDrawn, IsSoundStored, each_once, kept_read, kept_of, stored_of}
 use Rattle.perm_catalog.specs.declared.column.Column.{Column}
 use Rattle.perm_catalog.specs.declared.entries.SourceVersion.{SourceVersion}
 use Rattle.perm_catalog.specs.declared.entries.TableEntry.{TableEntry}
@@ -145,14 +145,14 @@ module _ (c : Contents) (sound : IsSound c) where
       each_table-kept (IsHeldTable c) (λ other own. other ≡ table.id → own ≡ kinds)
       (λ id own h same. sym h.kinds_are ∙ ap (λ (t : TableEntry). column_kinds t.columns) (same-table id own h name table named (sym same)) ∙ sym are) q held
 
-  pub kept-fresh : (query : Query) (places : List ℕ) → IsFresh c (mark_of c query places)
+  pub kept-fresh : (query : Query) (places : List ℕ) → IsFresh c (stored_of c query places)
   kept-fresh query places =
       all-pass (is_unchanged c) (kept_of c query)
       (all-flat (λ kept. is_unchanged c kept ≡ true) (kept_read c) (each_once (tables_read query)) (λ read. unchanged-by read (entry_of_id c read.id) refl))
 
   pub new-sound : (columns : List Column) (rows : Bag) (input : Query) (places : List ℕ) → WellFormed [] (ProvOf input) →
       EachTable (IsHeldTable c) (ProvOf input) → kinds_of (ProvOf input) ≡ column_kinds columns → PlacesWithin (length columns) places →
-      SameRows (meaning (ProvOf input) (rows_in c.rows) []) (Good rows) → IsSoundStored c columns rows (mark_of c (ProvOf input) places)
+      SameRows (meaning (ProvOf input) (rows_in c.rows) []) (Good rows) → IsSoundStored c columns rows (stored_of c (ProvOf input) places)
   new-sound columns rows input places closed held kinds within same = record {
     input = input;
     asks = refl;

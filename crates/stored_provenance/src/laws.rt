@@ -16,7 +16,7 @@ ghost use Rattle.perm_catalog.specs.Changes.{table_named};
 ghost use Rattle.perm_catalog.specs.Columns.{column_kinds};
 ghost use Rattle.perm_catalog.specs.Contents.{Contents};
 ghost use Rattle.perm_catalog.specs.Sound.{IsSound};
-ghost use Rattle.perm_catalog.specs.Stored.{IsFresh, IsSoundStored, mark_of};
+ghost use Rattle.perm_catalog.specs.Stored.{IsFresh, IsSoundStored, stored_of};
 ghost use Rattle.perm_catalog.specs.declared.column.Column.{Column};
 ghost use Rattle.perm_catalog.specs.declared.entries.StoredQuery.{StoredQuery};
 ghost use Rattle.perm_catalog.specs.declared.entries.TableEntry.{TableEntry as Table};
@@ -31,8 +31,8 @@ pub fn a_new_stored_query_is_sound()
         IsSound c → WellFormed [] (ProvOf input) → EachTable (IsHeldTable c) (ProvOf input) →
         kinds_of (ProvOf input) ≡ column_kinds columns → PlacesWithin (length columns) places →
         SameRows (meaning (ProvOf input) (rows_in c.rows) []) (Good rows) →
-        IsSoundStored c columns rows (mark_of c (ProvOf input) places)
-        × IsFresh c (mark_of c (ProvOf input) places) }
+        IsSoundStored c columns rows (stored_of c (ProvOf input) places)
+        × IsFresh c (stored_of c (ProvOf input) places) }
 {}
 
 /// In each query that reads none but the tables of a sound catalog, a fresh table may be replaced by the

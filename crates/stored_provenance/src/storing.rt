@@ -2,7 +2,7 @@
 ghost use Rattle.std.specs.Prelude.{◌≡◌, ◌↔◌, IsTrue, OnOk, OnErr, IsErrOf, Some};
 ghost use Rattle.perm_values.specs.Numbers.{last_number};
 ghost use Rattle.perm_catalog.specs.Changes.{is_free, with_table};
-ghost use Rattle.perm_catalog.specs.Stored.{mark_of};
+ghost use Rattle.perm_catalog.specs.Stored.{stored_of};
 ghost use Rattle.perm_catalog.specs.declared.catalog.CatalogRefusal.{CatalogRefusal};
 
 use crate::kept::kept_of;
@@ -25,7 +25,7 @@ pub fn store(
 ) -> Result<(), CatalogRefusal>
     requires { IsTrue (is_free catalog.old name.now) }
     ensures ok { OnOk result (catalog.new ≡ with_table catalog.old name.now columns rows
-        (Some (mark_of catalog.old query places))) }
+        (Some (stored_of catalog.old query places))) }
     ensures spent { IsErrOf result CatalogRefusal.VersionsSpent ↔ (catalog.old.next ≡ last_number) }
     ensures err { OnErr result (catalog.new ≡ catalog.old) }
 {
