@@ -39,9 +39,9 @@ pub fn a_new_stored_query_is_sound()
 /// query that it stores: on the catalog's tables, under all outer rows, the two have the same set of faults,
 /// or the same bag of rows, and each row has the same witness lists.
 pub fn a_fresh_table_stands_for_its_query()
-    ensures { (c : Contents) (name : List ℕ) (table : Table) (stored : StoredQuery) (q : Query) (env : List Row) →
-        IsSound c → table_named c name ≡ Some table → table.stored ≡ Some stored → IsFresh c stored →
-        EachTable (IsHeldTable c) q →
+    ensures { (c : Contents) (name : List ℕ) (table : Table) (stored : StoredQuery) (q : Query)
+        (env : List Row) → IsSound c → table_named c name ≡ Some table →
+        table.stored ≡ Some stored → IsFresh c stored → EachTable (IsHeldTable c) q →
         SameMeaning (denote q (rows_in c.rows) env)
         (denote (over_queries (standing table.id stored.query) q) (rows_in c.rows) env) }
 {}
