@@ -6,16 +6,13 @@ use Rattle.perm_values.specs.declared.kind.Kind.TheVariants as kind
 use Rattle.perm_values.specs.declared.value.Value.TheVariants.{Null}
 use Rattle.bag_algebra.specs.built.Patterns.{OpOf, ProvOf, AggregateOf}
 use Rattle.bag_algebra.specs.declared.query.AggFn.TheVariants.{CountRows}
-use Rattle.bag_algebra.specs.declared.query.Query.{Query}
 use Rattle.null_logic.specs.declared.operator.Operator.TheVariants as op
 use Rattle.bag_algebra.specs.declared.expr.Expr.{more_of-Expr, end_of-Expr}
 use Rattle.name_meaning.specs.declared.answer.Resolved.TheVariants as r
 use Rattle.statement_meaning.specs.Asking.{Settled, Explained, asks}
 use Rattle.statement_meaning.specs.Turns.{Accepted}
-use Rattle.worked_examples.specs.HeldRows.{answering, column, holding, item, number, reckoned, select, selected, source_r, source_s, whole, word}
-
-abbrev select_a : Query
-select_a = select (item kind.Integer (column 0) ∷ []) source_r
+use Rattle.worked_examples.specs.Queries.{num as whole, number, reckoned, r as source_r, s as source_s, built as item, select, a_of_r as select_a}
+use Rattle.worked_examples.specs.HeldRows.{answering, column, holding, selected, word}
 
 -- rows stand as often as they are there: SELECT a FROM r
 pub twice :

@@ -13,7 +13,7 @@ use Rattle.name_meaning.specs.declared.answer.Break.{Break}
 use Rattle.name_meaning.proofs.Equations.{tree_equations, token-given}
 use Rattle.worked_examples.specs.NamedCatalog.{contents, a_of_r, column_item}
 use Rattle.worked_examples.specs.NamedTrees.{name, expr, column, column_of, number, table, from, item, select, core, key, ordered, query, statement}
-use Rattle.worked_examples.specs.NamedQueries.{whole}
+use Rattle.worked_examples.specs.Queries.{number as whole}
 use Rattle.sql_tree.specs.declared.expression.AggWord.TheVariants as word
 use Rattle.sql_tree.specs.declared.expression.ExprBody.TheVariants as e
 use Rattle.sql_tree.specs.declared.query.SelectItem.TheVariants as i

@@ -6,13 +6,14 @@ use Rattle.null_logic.specs.declared.compare.Compare.TheVariants.{Greater, Equal
 use Rattle.perm_values.specs.declared.kind.Kind.TheVariants as kind
 use Rattle.perm_values.specs.declared.value.Value.TheVariants.{Null}
 use Rattle.bag_algebra.specs.Bags.{Bag}
-use Rattle.bag_algebra.specs.built.Patterns.{IsNullOf, UnionOf}
+use Rattle.bag_algebra.specs.built.Patterns.{IsNullOf}
 use Rattle.bag_algebra.specs.declared.expr.Expr.{Expr}
 use Rattle.bag_algebra.specs.declared.query.Query.{Query}
 use Rattle.name_meaning.specs.declared.answer.Resolved.TheVariants as r
 use Rattle.statement_meaning.specs.Asking.{Settled, asks}
 use Rattle.statement_meaning.specs.Turns.{Accepted, Refused, Meets}
-use Rattle.worked_examples.specs.HeldRows.{answering, column, compared, holding, impacted, item, number, reckoned, select, source_r, source_s, whole, word}
+use Rattle.worked_examples.specs.Queries.{num as whole, number, compared, reckoned, r as source_r, built as item, select, united}
+use Rattle.worked_examples.specs.HeldRows.{answering, column, holding, impacted, word}
 
 abbrev rows : Bag
 rows = (whole 1 ∷ word (codes "x") ∷ []) ∷ (whole 2 ∷ word (codes "x") ∷ []) ∷ (whole 3 ∷ word (codes "z") ∷ []) ∷ []
@@ -24,10 +25,6 @@ above n = Some (compared Greater (column 0) (number n))
 -- SELECT b FROM r
 abbrev select_b : Query
 select_b = select (item kind.Text (column 1) ∷ []) source_r
-
--- SELECT c FROM s UNION SELECT a FROM r
-abbrev united : Query
-united = UnionOf false (select (item kind.Integer (column 0) ∷ []) source_s) (select (item kind.Integer (column 0) ∷ []) source_r)
 
 -- x stays, since one of its rows does: IMPACT DELETE FROM r WHERE a > 1 OF SELECT b FROM r
 pub one_stays :

@@ -4,26 +4,22 @@ use Rattle.std.proofs.Common.{refl}
 use Rattle.std.specs.FinMap as rows
 use Rattle.std.specs.Fmt.{digits}
 use Rattle.null_logic.specs.declared.arith.Arith.TheVariants.{Multiply}
-use Rattle.null_logic.specs.declared.compare.Compare.{Compare}
 use Rattle.null_logic.specs.declared.compare.Compare.TheVariants as compare
 use Rattle.null_logic.specs.declared.operator.Operator.TheVariants as op
 use Rattle.null_logic.specs.declared.truth.Truth.TheVariants.{Unknown}
 use Rattle.perm_values.specs.declared.key.Key.{Key}
-use Rattle.perm_values.specs.declared.kind.Kind.{Kind}
 use Rattle.perm_values.specs.declared.kind.Kind.TheVariants as kind
 use Rattle.perm_values.specs.declared.value.Value.TheVariants.{Null, Integer}
-use Rattle.bag_algebra.specs.built.Patterns.{Shape, OpOf, ChainOf, CaseOf, IsNullOf, IsTruthOf, FilterOf, ProjectOf, JoinOf, ApplyOf, UnionOf, IntersectOf, ExceptOf, DistinctOf, AggregateOf, LimitOf}
+use Rattle.bag_algebra.specs.built.Patterns.{OpOf, ChainOf, CaseOf, IsNullOf, IsTruthOf, FilterOf, ProjectOf, JoinOf, ApplyOf, UnionOf, IntersectOf, ExceptOf, DistinctOf, AggregateOf, LimitOf}
 use Rattle.bag_algebra.specs.declared.expr.Expr.{Expr, more_of-Expr, end_of-Expr, more_of-ChainStep, end_of-ChainStep, more_of-Arm, end_of-Arm}
 use Rattle.bag_algebra.specs.declared.expr.Expr.TheVariants.{Col, Lit, Sub}
-use Rattle.bag_algebra.specs.declared.expr.Item.{Item}
 use Rattle.bag_algebra.specs.declared.query.AggFn.TheVariants as agg
 use Rattle.bag_algebra.specs.declared.query.Answer.{Answer}
 use Rattle.bag_algebra.specs.declared.query.JoinKind.TheVariants as join
 use Rattle.bag_algebra.specs.declared.query.Query.{Query, more_of-Sublink, end_of-Sublink}
-use Rattle.bag_algebra.specs.declared.query.Query.TheVariants.{Table, Single}
+use Rattle.bag_algebra.specs.declared.query.Query.TheVariants.{Single}
 use Rattle.bag_algebra.specs.declared.query.SubKind.TheVariants as ask
 use Rattle.perm_catalog.specs.Contents.{Contents}
-use Rattle.perm_catalog.specs.declared.column.Column.{Column}
 use Rattle.sql_tree.specs.declared.query.QueryTree.{QueryTree}
 use Rattle.name_meaning.specs.Statements.{query_meant}
 use Rattle.name_meaning.proofs.Equations.{tree_equations, token-given}
@@ -33,16 +29,15 @@ use Rattle.sql_printer.specs.rows.Printed.{printed_answer}
 use Rattle.statement_meaning.specs.explains.Explains.{read_as}
 use Rattle.sql_printer.specs.answers.ReadAs.{source_in}
 use Rattle.worked_examples.specs.FormTrees.{query_tree}
+use Rattle.worked_examples.specs.HeldRows.{column as col}
+use Rattle.worked_examples.specs.NamedCatalog.{table_r, table_s, table_r_read as r, table_s_read as s}
+use Rattle.worked_examples.specs.Queries.{none, one, two, compared, item, truth}
 
 -- ---- words of the examples
 
-abbrev stored : List ℕ → Kind → Column
-stored name kind = record { name = name; kind = kind }
-
 abbrev contents : Contents
 contents = record {
-  tables = (codes "r", record { id = 1; version = 1; columns = stored (codes "a") kind.Integer ∷ stored (codes "b") kind.Text ∷ []; stored = None })
-      ∷ (codes "s", record { id = 2; version = 2; columns = stored (codes "c") kind.Integer ∷ []; stored = None }) ∷ [];
+  tables = (codes "r", table_r) ∷ (codes "s", table_s) ∷ [];
   views = [];
   rows = rows.empty;
   next = 3;
@@ -52,38 +47,8 @@ abbrev tables : List TableNames
 tables =
     record { id = 1; name = codes "r"; columns = codes "a" ∷ codes "b" ∷ [] } ∷ record { id = 2; name = codes "s"; columns = codes "c" ∷ [] } ∷ []
 
-abbrev r : Query
-r = Table 1 (kind.Integer ∷ kind.Text ∷ [])
-
-abbrev s : Query
-s = Table 2 (kind.Integer ∷ [])
-
-abbrev none : Shape
-none = []
-
-abbrev one : Shape
-one = tt ∷ []
-
-abbrev two : Shape
-two = tt ∷ tt ∷ []
-
-abbrev three : Shape
-three = tt ∷ tt ∷ tt ∷ []
-
-abbrev col : ℕ → Expr
-col place = Col 0 place
-
 abbrev num : ℤ → Expr
 num n = Lit (Integer n) kind.Integer
-
-abbrev compared : Compare → Expr → Expr → Expr
-compared c a b = OpOf (op.Compare c) two (more_of-Expr a (more_of-Expr b end_of-Expr))
-
-abbrev item : Expr → Item
-item e = record { expr = e; kind = kind.Integer }
-
-abbrev truth : Expr → Item
-truth e = record { expr = e; kind = kind.Boolean }
 
 abbrev tree : Query → List (List ℕ) → List Key → QueryTree
 tree q names keys = query_tree (shown_answer tables q names keys)

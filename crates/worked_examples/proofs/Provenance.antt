@@ -11,26 +11,19 @@ use Rattle.bag_algebra.specs.declared.expr.Expr.TheVariants.{Lit, Sub}
 use Rattle.bag_algebra.specs.declared.query.Answer.{Answer}
 use Rattle.bag_algebra.specs.declared.query.JoinKind.TheVariants.{Inner, Left}
 use Rattle.bag_algebra.specs.declared.query.Label.TheVariants.{External}
-use Rattle.bag_algebra.specs.declared.query.Query.{Query, more_of-Sublink, end_of-Sublink}
+use Rattle.bag_algebra.specs.declared.query.Query.{more_of-Sublink, end_of-Sublink}
 use Rattle.bag_algebra.specs.declared.query.SubKind.TheVariants.{Any}
 use Rattle.name_meaning.specs.declared.answer.Resolved.TheVariants as r
 use Rattle.statement_meaning.specs.Asking.{Settled, asks}
 use Rattle.statement_meaning.specs.Turns.{Accepted}
-use Rattle.worked_examples.specs.HeldRows.{answering, column, compared, holding, item, select, selected, source_r, source_s, whole, word}
+use Rattle.worked_examples.specs.Queries.{num as whole, compared, r as source_r, s as source_s, built as item, select, a_of_r as select_a, c_of_s as select_c}
+use Rattle.worked_examples.specs.HeldRows.{answering, column, holding, selected, word}
 
 abbrev one_two : Bag
 one_two = (whole 1 ∷ []) ∷ (whole 2 ∷ []) ∷ []
 
 abbrev one_x : Bag
 one_x = (whole 1 ∷ word (codes "x") ∷ []) ∷ []
-
--- SELECT c FROM s
-abbrev select_c : Query
-select_c = select (item kind.Integer (column 0) ∷ []) source_s
-
--- SELECT a FROM r
-abbrev select_a : Query
-select_a = select (item kind.Integer (column 0) ∷ []) source_r
 
 -- each reference of a self join is a place: SELECT PROVENANCE x.c FROM s x, s y
 abbrev self_join : Answer

@@ -28,7 +28,8 @@ use Rattle.statement_meaning.specs.Turns.{Cause, Accepted, Refused, Broken, Meet
 use Rattle.worked_examples.specs.NamedCatalog.{stored}
 use Rattle.worked_examples.specs.NamedTrees.{name, statement, defined, values, query, core}
 use Rattle.worked_examples.specs.NamedTrees as tree
-use Rattle.worked_examples.specs.HeldRows.{answering, column, compared, drawing_next, holding, item, number, reckoned, rows-r, rows-s, select, selected, source_s, text, whole, with_v}
+use Rattle.worked_examples.specs.Queries.{num as whole, number, text, compared, reckoned, s as source_s, built as item, select, by_zero as divided}
+use Rattle.worked_examples.specs.HeldRows.{answering, column, drawing_next, holding, rows-r, rows-s, selected, with_v}
 use Rattle.name_meaning.specs.declared.rule.Rule.TheVariants as rule
 
 abbrev refused : Cause → Asked
@@ -40,10 +41,6 @@ faults = record { divides = false; range = false; several = false }
 -- a statement that begins at an offset
 abbrev standing : ℕ → StatementBody → Statement
 standing at body = record { at = at; body = body }
-
--- 1 / 0
-abbrev divided : Expr
-divided = reckoned Divide (number 1) (number 0)
 
 -- 9223372036854775807 + 1
 abbrev too_much : Expr

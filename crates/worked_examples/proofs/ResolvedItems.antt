@@ -12,7 +12,8 @@ use Rattle.name_meaning.specs.Statements.{query_meant, columns_of}
 use Rattle.name_meaning.proofs.Equations.{tree_equations, token-given}
 use Rattle.worked_examples.specs.NamedCatalog.{contents, read_r, read_s, a_of_r, provenance_names, table_r_read, table_t_read}
 use Rattle.worked_examples.specs.NamedTrees.{name, expr, column, column_of, number, reads, table, join, from, item, select, core, query}
-use Rattle.worked_examples.specs.NamedQueries.{one_over, yes}
+use Rattle.worked_examples.specs.Queries.{yes}
+use Rattle.worked_examples.specs.NamedQueries.{one_over}
 use Rattle.sql_tree.specs.declared.expression.ExprBody.TheVariants as e
 use Rattle.sql_tree.specs.declared.query.SelectItem.TheVariants as i
 use Rattle.sql_tree.specs.declared.source.FromSource.TheVariants as source

@@ -15,7 +15,8 @@ use Rattle.name_meaning.specs.Statements.{query_meant, columns_of, resolved_body
 use Rattle.name_meaning.proofs.Equations.{tree_equations, token-given}
 use Rattle.worked_examples.specs.NamedCatalog.{contents, read_r, read_s, a_of_r, c_of_s, column_item, stored, view_of, table_s_read, table_t_read}
 use Rattle.worked_examples.specs.NamedTrees.{name, reference, expr, column, column_of, number, text, null, step, arm, reads, table, join as join_step, from, item, select, core, operand, key, ordered, query, values}
-use Rattle.worked_examples.specs.NamedQueries.{one_over, truth_of, yes, built, tested, sub, aggregate, nothing, word, whole}
+use Rattle.worked_examples.specs.Queries.{number as whole, text as word, yes, nothing, built, truth as truth_of}
+use Rattle.worked_examples.specs.NamedQueries.{one_over, tested, sub, aggregate}
 use Rattle.sql_tree.specs.declared.expression.ExprBody.TheVariants as e
 use Rattle.sql_tree.specs.declared.query.SelectItem.TheVariants as i
 use Rattle.sql_tree.specs.declared.query.SetTree.TheVariants as set

@@ -6,7 +6,6 @@ use Rattle.perm_values.specs.declared.kind.Kind.TheVariants as kind
 use Rattle.bag_algebra.specs.Bags.{Bag}
 use Rattle.bag_algebra.specs.built.Patterns.{ProvOf}
 use Rattle.bag_algebra.specs.declared.query.Answer.{Answer}
-use Rattle.bag_algebra.specs.declared.query.Query.{Query}
 use Rattle.perm_catalog.specs.Contents.{Contents}
 use Rattle.perm_catalog.specs.declared.entries.StoredQuery.{StoredQuery}
 use Rattle.perm_catalog.specs.declared.entries.TableEntry.{TableEntry}
@@ -14,11 +13,8 @@ use Rattle.name_meaning.specs.declared.answer.Resolved.TheVariants as r
 use Rattle.statement_meaning.specs.Asking.{Settled, asks}
 use Rattle.statement_meaning.specs.Turns.{Accepted, show_fresh}
 use Rattle.worked_examples.specs.NamedCatalog.{stored, table_r, table_s}
-use Rattle.worked_examples.specs.HeldRows.{answering, column, holding, item, rows_of, select, source_s, stored-as, whole}
-
--- SELECT c FROM s
-abbrev c_of_s : Query
-c_of_s = select (item kind.Integer (column 0) ∷ []) source_s
+use Rattle.worked_examples.specs.Queries.{num as whole, c_of_s}
+use Rattle.worked_examples.specs.HeldRows.{answering, holding, rows_of, stored-as}
 
 abbrev rows_s : Bag
 rows_s = (whole 2 ∷ []) ∷ (whole 1 ∷ []) ∷ []

@@ -16,7 +16,8 @@ use Rattle.statement_meaning.specs.Asking.{Settled, Begins, asked, asks}
 use Rattle.statement_meaning.specs.Turns.{Accepted, copy}
 use Rattle.worked_examples.specs.NamedCatalog.{table_r, table_s}
 use Rattle.worked_examples.specs.NamedTrees.{name, defined, statement}
-use Rattle.worked_examples.specs.HeldRows.{after, column, compared, holding, nothing, number, reckoned, rows-r, text, view_v, whole, with_v, word}
+use Rattle.worked_examples.specs.Queries.{num as whole, number, text, nothing, compared, reckoned}
+use Rattle.worked_examples.specs.HeldRows.{after, column, holding, rows-r, view_v, with_v, word}
 
 -- the table's identity and version are the number drawn: CREATE TABLE r (a INTEGER, b TEXT)
 pub created :

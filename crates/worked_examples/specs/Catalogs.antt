@@ -2,11 +2,7 @@
 use Rattle.std.specs.Prelude.{◌≡◌, ℕ, true, false, List, [], ◌∷◌, Some, None, refl, codes}
 use Rattle.std.specs.FinMap as map
 use Rattle.std.specs.Map.{keys_of}
-use Rattle.perm_values.specs.declared.kind.Kind.TheVariants as kind
-use Rattle.perm_values.specs.declared.value.Value.TheVariants.{Boolean}
 use Rattle.bag_algebra.specs.built.Patterns.{FilterOf, JoinOf}
-use Rattle.bag_algebra.specs.declared.expr.Expr.{Expr}
-use Rattle.bag_algebra.specs.declared.expr.Expr.TheVariants.{Lit}
 use Rattle.bag_algebra.specs.declared.query.JoinKind.TheVariants.{Inner}
 use Rattle.bag_algebra.specs.declared.query.SubKind.TheVariants.{Exists}
 use Rattle.bag_algebra.specs.declared.query.Query.{Query, more_of-Sublink, end_of-Sublink}
@@ -17,6 +13,7 @@ use Rattle.perm_catalog.specs.Lookups.{first_user, name_of_id}
 use Rattle.bag_algebra.specs.TablesRead.{tables_read}
 use Rattle.perm_catalog.specs.declared.entries.TableEntry.{TableEntry}
 use Rattle.perm_catalog.specs.declared.entries.ViewEntry.{ViewEntry}
+use Rattle.worked_examples.specs.Queries.{yes}
 
 abbrev table : ℕ → ℕ → TableEntry
 table id version = record { id = id; version = version; columns = []; stored = None }
@@ -70,9 +67,6 @@ dropped-view : keys_of (without_view held (codes "v")).views ≡ codes "w" ∷ [
 dropped-view = refl
 
 -- ---- what a query reads: left before right, and a sublink behind the input
-
-abbrev yes : Expr
-yes = Lit (Boolean true) kind.Boolean
 
 abbrev exists : Query → Query → Query
 exists input query = FilterOf input yes (tt ∷ []) (more_of-Sublink Exists None query end_of-Sublink)

@@ -1,11 +1,11 @@
 -- Worked examples of the words that sum counts: r holds 1 twice and 2 once, s holds 1 once and 3 twice.
-use Rattle.std.specs.Prelude.{◌≡◌, ℕ, pos, List, [], ◌∷◌, refl}
+use Rattle.std.specs.Prelude.{◌≡◌, List, [], ◌∷◌, refl}
 use Rattle.null_logic.specs.Comparison.{compare_values}
 use Rattle.null_logic.specs.Logic.{value_of}
 use Rattle.null_logic.specs.declared.compare.Compare.TheVariants.{Equal, Less}
 use Rattle.perm_values.specs.Rows.{value_at}
 use Rattle.perm_values.specs.declared.value.Value.{Value}
-use Rattle.perm_values.specs.declared.value.Value.TheVariants.{Null, Integer}
+use Rattle.perm_values.specs.declared.value.Value.TheVariants.{Null}
 use Rattle.bag_algebra.specs.Bags.{Row, Bag}
 use Rattle.bag_algebra.specs.Means.{gives, holds_of}
 use Rattle.bag_algebra.specs.Outcome.{Outcome, Good}
@@ -13,9 +13,7 @@ use Rattle.bag_algebra.specs.declared.query.JoinKind.TheVariants.{Inner, Left, R
 use Rattle.query_laws.specs.Aggregated.{occurrences}
 use Rattle.query_laws.specs.Holding.{counted_where}
 use Rattle.query_laws.specs.Nodes.{pairs_count, left_count, right_count, class_values}
-
-abbrev num : ℕ → Value
-num n = Integer (pos n)
+use Rattle.worked_examples.specs.Queries.{num}
 
 abbrev one_two : List Row
 one_two = (num 1 ∷ []) ∷ (num 2 ∷ []) ∷ []

@@ -15,7 +15,7 @@ use Rattle.bag_algebra.specs.declared.query.Query.TheVariants.{Table, Single}
 use Rattle.bag_algebra.specs.declared.query.SubKind.TheVariants.{Exists}
 use Rattle.query_facts.specs.monotone.Monotone.{is_monotone}
 use Rattle.delete_impact.specs.vanishing.Doomed.{after_deletion, has_doomed, is_doomed, places_over}
-use Rattle.worked_examples.specs.Queries.{none, num, x, z, holding, col, number, yes, compared, r, s, item, named, select, select_a, where_sub}
+use Rattle.worked_examples.specs.Queries.{none, num, x, z, holding, col, number, yes, compared, r, s, item, named, select, select_a, where_sub, united}
 
 -- ---- which queries are monotone
 
@@ -114,9 +114,6 @@ no_list-spared = refl
 -- SELECT c FROM s UNION SELECT a FROM r, with a NULL on both sides: nothing at the place of s is no doomed row of NULLs
 abbrev nulls : Database
 nulls = holding ((Null ∷ x ∷ []) ∷ []) ((Null ∷ []) ∷ (num 1 ∷ []) ∷ [])
-
-abbrev united : Query
-united = UnionOf false (select_a s) (select_a r)
 
 empty-lists : witnesses united nulls [] (Null ∷ []) ≡ (Held (Null ∷ []) ∷ Empty 2 ∷ []) ∷ (Empty 1 ∷ Held (Null ∷ x ∷ []) ∷ []) ∷ []
 empty-lists = refl

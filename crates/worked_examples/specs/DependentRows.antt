@@ -6,7 +6,7 @@ use Rattle.null_logic.specs.declared.compare.Compare.TheVariants as compare
 use Rattle.null_logic.specs.declared.run_fault.RunFault.TheVariants.{DivideByZero}
 use Rattle.perm_values.specs.declared.kind.Kind.TheVariants as kind
 use Rattle.perm_values.specs.declared.value.Value.TheVariants.{Null}
-use Rattle.bag_algebra.specs.Meaning.{Database, witnesses}
+use Rattle.bag_algebra.specs.Meaning.{witnesses}
 use Rattle.bag_algebra.specs.Means.{Held, Empty}
 use Rattle.bag_algebra.specs.Outcome.{Good, Bad, only}
 use Rattle.bag_algebra.specs.built.Patterns.{AggregateOf, ApplyOf, BaseOf, FilterOf, JoinOf, ProvOf}
@@ -17,10 +17,7 @@ use Rattle.bag_algebra.specs.declared.query.JoinKind.TheVariants.{Inner, Left, R
 use Rattle.bag_algebra.specs.declared.query.Label.TheVariants.{Relation}
 use Rattle.bag_algebra.specs.declared.query.Query.{Query, more_of-Sublink, end_of-Sublink}
 use Rattle.bag_algebra.specs.declared.query.SubKind.TheVariants.{Any, Exists}
-use Rattle.worked_examples.specs.Queries.{none, one, num, x, y, holding, col, number, compared, reckoned, and_also, r, s, item, select, select_a, where_sub, printed}
-
-abbrev one_and_two : Database
-one_and_two = holding ((num 1 ∷ x ∷ []) ∷ (num 2 ∷ y ∷ []) ∷ []) ((num 1 ∷ []) ∷ (num 2 ∷ []) ∷ [])
+use Rattle.worked_examples.specs.Queries.{none, one, num, x, y, holding, col, number, compared, reckoned, and_also, r, s, item, select, select_a, where_sub, printed, one_and_two, same, two_alone}
 
 -- ---- dependent joins
 
@@ -34,15 +31,8 @@ greatest-of_each : printed (ProvOf (select (item (col 0 0) ∷ item (col 0 2) �
     ≡ Good ((num 1 ∷ num 1 ∷ num 1 ∷ x ∷ num 1 ∷ []) ∷ (num 2 ∷ num 2 ∷ num 2 ∷ y ∷ num 1 ∷ []) ∷ (num 2 ∷ num 2 ∷ num 2 ∷ y ∷ num 2 ∷ []) ∷ [])
 greatest-of_each = refl
 
--- SELECT c FROM s WHERE c = r.a
-abbrev same : Query
-same = FilterOf s (compared compare.Equal (col 0 0) (col 1 0)) none end_of-Sublink
-
 abbrev with_same : JoinKind → Query
 with_same kind = ApplyOf kind r same
-
-abbrev two_alone : Database
-two_alone = holding ((num 1 ∷ x ∷ []) ∷ (num 2 ∷ y ∷ []) ∷ (num 2 ∷ y ∷ []) ∷ (Null ∷ x ∷ []) ∷ []) ((num 2 ∷ []) ∷ (num 2 ∷ []) ∷ (Null ∷ []) ∷ [])
 
 -- counts multiply; what is equal to nothing, NULL among it, has no partner
 inner-counts : printed (with_same Inner) two_alone

@@ -1,17 +1,13 @@
 -- The rows of small files, and the rules that they break, worked out.
-use Rattle.std.proofs.Common.{◌≡◌, pos, negsuc, true, false, List, [], ◌∷◌, ◌++◌, codes, refl}
+use Rattle.std.proofs.Common.{◌≡◌, pos, negsuc, true, false, [], ◌∷◌, ◌++◌, codes, refl}
 use Rattle.std.specs.Str.{chars, is_utf8}
 use Rattle.csv.specs.Machine.{next_record}
 use Rattle.csv.specs.Reading.{records_from, strip_bom}
-use Rattle.perm_values.specs.declared.kind.Kind.{Kind}
 use Rattle.perm_values.specs.declared.kind.Kind.TheVariants as kind
 use Rattle.perm_values.specs.declared.value.Value.TheVariants.{Null, Integer, Text}
 use Rattle.csv_tables.specs.Loading.{broken_rules, spelled_rows}
 use Rattle.csv_tables.specs.declared.data_error.DataError.TheVariants.{Width, NotInteger, NotText}
-
--- a column of integers and one of texts
-abbrev kinds : List Kind
-kinds = kind.Integer ∷ kind.Text ∷ []
+use Rattle.worked_examples.specs.Queries.{int_and_text as kinds}
 
 -- the last line end may be missing, and the empty field is NULL, in quotes too
 no_last_line_end : spelled_rows [] kinds false (codes "1,x\n,\"\"") ≡ (Integer (pos 1) ∷ Text (codes "x") ∷ []) ∷ (Null ∷ Null ∷ []) ∷ []

@@ -1,16 +1,11 @@
 -- Worked examples of the truth that a condition forces on its sublinks.
-use Rattle.std.specs.Prelude.{◌≡◌, [], ◌∷◌, Some, None, refl}
-use Rattle.null_logic.specs.declared.operator.Operator.TheVariants as op
+use Rattle.std.specs.Prelude.{◌≡◌, Some, None, refl}
 use Rattle.null_logic.specs.declared.truth.Truth.TheVariants.{True, False, Unknown}
-use Rattle.bag_algebra.specs.built.Patterns.{IsNullOf, IsTruthOf, OpOf}
-use Rattle.bag_algebra.specs.declared.expr.Expr.{Expr, more_of-Expr, end_of-Expr}
+use Rattle.bag_algebra.specs.built.Patterns.{IsNullOf, IsTruthOf}
+use Rattle.bag_algebra.specs.declared.expr.Expr.{Expr}
 use Rattle.bag_algebra.specs.declared.expr.Expr.TheVariants.{Sub}
 use Rattle.rewrite_move.specs.ForcedTruths.{forces}
-use Rattle.worked_examples.specs.Queries.{and_also}
-use Rattle.worked_examples.specs.RewrittenRows.{isnt}
-
-abbrev or_else : Expr → Expr → Expr
-or_else a b = OpOf op.Or (tt ∷ tt ∷ []) (more_of-Expr a (more_of-Expr b end_of-Expr))
+use Rattle.worked_examples.specs.Queries.{and_also, isnt, or_else}
 
 -- (0 AND NOT 1) AND (2 OR 3), of four sublinks
 abbrev four : Expr

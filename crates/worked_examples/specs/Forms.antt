@@ -1,66 +1,33 @@
 -- Worked examples of well-formed queries over r(a INTEGER, b TEXT) and s(c INTEGER), of what fits them, and of databases
 -- that give them one meaning.
-use Rattle.std.specs.Prelude.{◌≡◌, ℕ, suc, zero, ◌<◌, pos, Bool, true, false, cond, ◌==◌, List, [], ◌∷◌, Some, None, refl, codes, All}
+use Rattle.std.specs.Prelude.{◌≡◌, ℕ, suc, zero, ◌<◌, Bool, true, false, cond, List, [], ◌∷◌, Some, None, refl, All}
 use Rattle.std.proofs.Common.{lit<, le_of_suc-le-suc, not-suc-le-zero}
-use Rattle.null_logic.specs.declared.compare.Compare.TheVariants as compare
-use Rattle.null_logic.specs.declared.operator.Operator.TheVariants as op
 use Rattle.perm_values.specs.declared.kind.Kind.{Kind}
 use Rattle.perm_values.specs.declared.kind.Kind.TheVariants as kind
-use Rattle.perm_values.specs.declared.value.Value.{Value}
-use Rattle.perm_values.specs.declared.value.Value.TheVariants.{Null, Integer, Text}
+use Rattle.perm_values.specs.declared.value.Value.TheVariants.{Null}
 use Rattle.perm_values.specs.Rows.{same_row}
-use Rattle.bag_algebra.specs.Bags.{Row, Bag, count}
+use Rattle.bag_algebra.specs.Bags.{Row, count}
 use Rattle.bag_algebra.specs.Fits.{env_fits}
 use Rattle.bag_algebra.specs.Meaning.{Database, witnesses}
 use Rattle.bag_algebra.specs.Means.{Held, Empty}
 use Rattle.bag_algebra.specs.Kinds.{shape}
-use Rattle.bag_algebra.specs.built.Patterns.{OpOf, BaseOf, FilterOf, AggregateOf, Shape}
+use Rattle.bag_algebra.specs.built.Patterns.{FilterOf, AggregateOf}
 use Rattle.bag_algebra.specs.WellFormed.{aggr_form, WellFormed}
-use Rattle.bag_algebra.specs.declared.expr.Expr.{Expr, more_of-Expr, end_of-Expr}
+use Rattle.bag_algebra.specs.declared.expr.Expr.{Expr}
 use Rattle.bag_algebra.specs.declared.expr.Expr.TheVariants.{Col, Sub}
 use Rattle.bag_algebra.specs.declared.query.AggFn.TheVariants.{Min}
 use Rattle.bag_algebra.specs.declared.query.Aggr.{Aggr}
-use Rattle.bag_algebra.specs.declared.query.Label.TheVariants.{Relation}
 use Rattle.bag_algebra.specs.declared.query.Query.{Query, more_of-Sublink, end_of-Sublink}
-use Rattle.bag_algebra.specs.declared.query.Query.TheVariants.{Table}
 use Rattle.bag_algebra.specs.declared.query.SubKind.TheVariants.{Exists}
 use Rattle.contribution.specs.Fitting.{Fitting}
 use Rattle.contribution.specs.FitsPlaces.{FitsPlaces, no_place, held, empty}
 use Rattle.contribution.specs.Longer.{Longer, more_lists, more_items}
 use Rattle.contribution.specs.SameMeaning.{SameTables}
-
-abbrev one : Shape
-one = tt ∷ []
-
-abbrev two : Shape
-two = tt ∷ tt ∷ []
-
-abbrev num : ℕ → Value
-num n = Integer (pos n)
-
-abbrev equals : Expr → Expr → Expr
-equals a b = OpOf (op.Compare compare.Equal) two (more_of-Expr a (more_of-Expr b end_of-Expr))
-
-abbrev r : Query
-r = BaseOf (Table 1 (kind.Integer ∷ kind.Text ∷ [])) (0 ∷ 1 ∷ []) (Relation (codes "r") (codes "a" ∷ codes "b" ∷ []))
-
-abbrev s : Query
-s = BaseOf (Table 2 (kind.Integer ∷ [])) (0 ∷ []) (Relation (codes "s") (codes "c" ∷ []))
-
--- SELECT c FROM s WHERE c = r.a
-abbrev inner : Query
-inner = FilterOf s (equals (Col 0 0) (Col 1 0)) [] end_of-Sublink
+use Rattle.worked_examples.specs.Queries.{holding, int_and_text, num, one, r, s, same as inner, x}
 
 -- SELECT a, b FROM r WHERE EXISTS (SELECT c FROM s WHERE c = r.a)
 abbrev correlated : Query
 correlated = FilterOf r (Sub 0) one (more_of-Sublink Exists None inner end_of-Sublink)
-
--- r has identity 1, s has identity 2
-abbrev holding : Bag → Bag → Database
-holding rs ss id = cond (id == 1) rs (cond (id == 2) ss [])
-
-abbrev x : Value
-x = Text (codes "x")
 
 abbrev some_rows : Database
 some_rows = holding ((num 1 ∷ x ∷ []) ∷ (Null ∷ x ∷ []) ∷ []) ((num 1 ∷ []) ∷ [])
@@ -82,9 +49,6 @@ s-formed outer = record { input = tt; in_range = one_place (λ place. place < 1)
 
 abbrev ints : List Kind
 ints = kind.Integer ∷ []
-
-abbrev int_and_text : List Kind
-int_and_text = kind.Integer ∷ kind.Text ∷ []
 
 -- the subquery is well formed where the outer row has an integer in front, and not under no outer row
 pub inner-formed : (more : List Kind) (outer : List (List Kind)) → WellFormed ((kind.Integer ∷ more) ∷ outer) inner

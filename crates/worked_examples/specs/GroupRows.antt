@@ -1,5 +1,5 @@
 -- Worked examples of aggregates over s(c INTEGER), and of groups.
-use Rattle.std.specs.Prelude.{◌≡◌, negsuc, [], ◌∷◌, Some, None, refl}
+use Rattle.std.specs.Prelude.{◌≡◌, negsuc, [], ◌∷◌, Some, refl}
 use Rattle.null_logic.specs.declared.arith.Arith.TheVariants.{Divide}
 use Rattle.null_logic.specs.declared.compare.Compare.TheVariants as compare
 use Rattle.null_logic.specs.declared.run_fault.RunFault.TheVariants.{OutOfRange, DivideByZero}
@@ -11,19 +11,16 @@ use Rattle.bag_algebra.specs.Outcome.{Good, Bad, only}
 use Rattle.bag_algebra.specs.built.Patterns.{FilterOf, AggregateOf}
 use Rattle.bag_algebra.specs.declared.query.Aggr.{Aggr}
 use Rattle.bag_algebra.specs.declared.query.AggFn.{AggFn}
-use Rattle.bag_algebra.specs.declared.query.AggFn.TheVariants.{CountRows, Count, CountDistinct, Sum, Min, Max}
+use Rattle.bag_algebra.specs.declared.query.AggFn.TheVariants.{Count, CountDistinct, Sum, Min, Max}
 use Rattle.bag_algebra.specs.declared.query.Query.{Query, end_of-Sublink}
-use Rattle.worked_examples.specs.Queries.{none, num, holding, col, number, compared, reckoned, s, printed}
+use Rattle.worked_examples.specs.Queries.{none, num, holding, col, number, compared, reckoned, s, printed, count_rows}
 
 abbrev of_c : AggFn → Aggr
 of_c function = record { function = function; argument = Some (col 0 0); kind = kind.Integer }
 
-abbrev rows : Aggr
-rows = record { function = CountRows; argument = None; kind = kind.Integer }
-
 -- SELECT COUNT(*), COUNT(c), COUNT(DISTINCT c), SUM(c), MIN(c), MAX(c) FROM s
 abbrev summary : Query
-summary = AggregateOf s [] (rows ∷ of_c Count ∷ of_c CountDistinct ∷ of_c Sum ∷ of_c Min ∷ of_c Max ∷ [])
+summary = AggregateOf s [] (count_rows ∷ of_c Count ∷ of_c CountDistinct ∷ of_c Sum ∷ of_c Min ∷ of_c Max ∷ [])
 
 some-rows : printed summary (holding [] ((num 2 ∷ []) ∷ (Null ∷ []) ∷ (num 1 ∷ []) ∷ (num 2 ∷ []) ∷ []))
     ≡ Good ((num 4 ∷ num 3 ∷ num 2 ∷ num 5 ∷ num 1 ∷ num 2 ∷ []) ∷ [])
@@ -60,7 +57,7 @@ arguments-first = refl
 -- ---- GROUP BY c, with HAVING COUNT(*) > 1 and without
 
 abbrev classes : Query
-classes = AggregateOf s (0 ∷ []) (rows ∷ of_c Count ∷ of_c Sum ∷ [])
+classes = AggregateOf s (0 ∷ []) (count_rows ∷ of_c Count ∷ of_c Sum ∷ [])
 
 abbrev nulls_and_one : Database
 nulls_and_one = holding [] ((Null ∷ []) ∷ (Null ∷ []) ∷ (num 1 ∷ []) ∷ [])

@@ -1,31 +1,22 @@
--- Words for worked statements: catalogs of the tables r(a INTEGER, b TEXT) and s(c INTEGER) with given rows, and resolved
--- expressions and queries over them.
-use Rattle.std.specs.Prelude.{◌≡◌, ℕ, pos, cond, List, [], ◌∷◌, Option, Some, None, unwrap_or, codes}
+-- Words for worked statements: catalogs of the tables r(a INTEGER, b TEXT) and s(c INTEGER) with given rows, and answers of
+-- queries over them, whose words are those of `Queries.antt`.
+use Rattle.std.specs.Prelude.{◌≡◌, ℕ, cond, List, [], ◌∷◌, Option, Some, None, unwrap_or, codes}
 use Rattle.std.proofs.Common.{ap, ◌∙◌}
 use Rattle.std.specs.Cmp.{nat_cmp_total}
 use Rattle.std.specs.FinMap as map
 use Rattle.std.specs.FinMap.{FinMap}
 use Rattle.std.specs.Ordering.{nat_cmp, eq_by_cmp}
-use Rattle.null_logic.specs.declared.arith.Arith.{Arith}
-use Rattle.null_logic.specs.declared.compare.Compare.{Compare}
-use Rattle.null_logic.specs.declared.operator.Operator.TheVariants as op
 use Rattle.perm_values.specs.declared.key.Key.{Key}
-use Rattle.perm_values.specs.declared.kind.Kind.{Kind}
-use Rattle.perm_values.specs.declared.kind.Kind.TheVariants as kind
 use Rattle.perm_values.specs.declared.value.Value.{Value}
 use Rattle.perm_values.specs.declared.value.Value.TheVariants as v
 use Rattle.perm_values.specs.Rows.{printed_cmp}
 use Rattle.bag_algebra.specs.Bags.{Bag, sorted}
 use Rattle.bag_algebra.specs.Meaning.{Database, meaning}
 use Rattle.bag_algebra.specs.TableRows.{rows_in}
-use Rattle.bag_algebra.specs.built.Patterns.{OpOf, ChainOf, BaseOf, ProjectOf}
-use Rattle.bag_algebra.specs.declared.expr.Expr.{Expr, more_of-Expr, end_of-Expr, more_of-ChainStep, end_of-ChainStep}
-use Rattle.bag_algebra.specs.declared.expr.Expr.TheVariants.{Col, Lit}
-use Rattle.bag_algebra.specs.declared.expr.Item.{Item}
+use Rattle.bag_algebra.specs.declared.expr.Expr.{Expr}
+use Rattle.bag_algebra.specs.declared.expr.Expr.TheVariants.{Col}
 use Rattle.bag_algebra.specs.declared.query.Answer.{Answer}
-use Rattle.bag_algebra.specs.declared.query.Label.TheVariants.{Relation}
-use Rattle.bag_algebra.specs.declared.query.Query.{Query, end_of-Sublink}
-use Rattle.bag_algebra.specs.declared.query.Query.TheVariants.{Table}
+use Rattle.bag_algebra.specs.declared.query.Query.{Query}
 use Rattle.perm_catalog.specs.Contents.{Contents}
 use Rattle.perm_catalog.specs.declared.column.Column.{Column}
 use Rattle.perm_catalog.specs.declared.entries.ViewEntry.{ViewEntry}
@@ -33,9 +24,6 @@ use Rattle.name_meaning.specs.declared.answer.Resolved.TheVariants as r
 use Rattle.statement_meaning.specs.Asking.{Settled, asks}
 use Rattle.statement_meaning.specs.Turns.{answered, identity_of, on_good, rows_before, rows_lost, store_answer}
 use Rattle.worked_examples.specs.NamedCatalog.{table_r, table_s, a_of_r, view_of}
-
-abbrev pub whole : ℕ → Value
-whole number = v.Integer (pos number)
 
 abbrev pub word : List ℕ → Value
 word text = v.Text text
@@ -112,38 +100,10 @@ stored-as rs ss at name columns answer places i =
     Settled (on_good at (meaning answer.query (λ (id : ℕ). rows-of rs ss id i) [])
     (λ (rows : Bag). store_answer (holding rs ss) at name columns answer places (sorted (printed_cmp answer.keys) rows)))
 
--- ---- resolved expressions and queries
+-- ---- columns and answers
 
 abbrev pub column : ℕ → Expr
 column place = Col 0 place
-
-abbrev pub number : ℕ → Expr
-number n = Lit (whole n) kind.Integer
-
-abbrev pub text : List ℕ → Expr
-text t = Lit (word t) kind.Text
-
-abbrev pub nothing : Kind → Expr
-nothing kind = Lit v.Null kind
-
-abbrev pub compared : Compare → Expr → Expr → Expr
-compared c a b = OpOf (op.Compare c) (tt ∷ tt ∷ []) (more_of-Expr a (more_of-Expr b end_of-Expr))
-
--- one step of arithmetic
-abbrev pub reckoned : Arith → Expr → Expr → Expr
-reckoned c a b = ChainOf a (tt ∷ []) (more_of-ChainStep c b end_of-ChainStep)
-
-abbrev pub source_r : Query
-source_r = BaseOf (Table 1 (kind.Integer ∷ kind.Text ∷ [])) (0 ∷ 1 ∷ []) (Relation (codes "r") (codes "a" ∷ codes "b" ∷ []))
-
-abbrev pub source_s : Query
-source_s = BaseOf (Table 2 (kind.Integer ∷ [])) (0 ∷ []) (Relation (codes "s") (codes "c" ∷ []))
-
-abbrev pub item : Kind → Expr → Item
-item kind expr = record { expr = expr; kind = kind }
-
-abbrev pub select : List Item → Query → Query
-select items query = ProjectOf query items [] end_of-Sublink
 
 abbrev pub answering : Query → List (List ℕ) → List Key → Answer
 answering query names keys = record { query = query; names = names; keys = keys }

@@ -1,15 +1,14 @@
 -- Worked examples of joins with sublinks in ON over the tables r(a INTEGER, b TEXT) and s(c INTEGER), rewritten by parts: the
 -- rewriting has the rows of the PROVENANCE of the join.
-use Rattle.std.specs.Prelude.{◌≡◌, List, [], ◌∷◌, Some, None, refl}
+use Rattle.std.specs.Prelude.{◌≡◌, [], ◌∷◌, Some, refl}
 use Rattle.null_logic.specs.declared.compare.Compare.TheVariants as compare
-use Rattle.perm_values.specs.declared.kind.Kind.{Kind}
 use Rattle.perm_values.specs.declared.kind.Kind.TheVariants as kind
 use Rattle.perm_values.specs.declared.value.Value.TheVariants.{Null}
 use Rattle.bag_algebra.specs.Bags.{Bag}
 use Rattle.bag_algebra.specs.ColumnItems.{column_items}
 use Rattle.bag_algebra.specs.Meaning.{Database}
 use Rattle.bag_algebra.specs.Outcome.{Good}
-use Rattle.bag_algebra.specs.built.Patterns.{FilterOf, JoinOf, ProjectOf, ProvOf}
+use Rattle.bag_algebra.specs.built.Patterns.{JoinOf, ProjectOf, ProvOf}
 use Rattle.bag_algebra.specs.declared.expr.Expr.{Expr}
 use Rattle.bag_algebra.specs.declared.expr.Expr.TheBlock.{shape-the_row-Expr-0, hidden-the_row-Expr-0, shape-the_row-Expr-1, hidden-the_row-Expr-1, shape-the_row-Arm-3, hidden-the_row-Arm-3}
 use Rattle.bag_algebra.specs.declared.expr.Expr.TheVariants.{Sub}
@@ -18,25 +17,23 @@ use Rattle.bag_algebra.specs.declared.query.JoinKind.TheVariants.{Inner, Left, R
 use Rattle.bag_algebra.specs.declared.query.Query.{Query, end_of-Sublink}
 use Rattle.bag_algebra.specs.declared.query.Query.TheBlock.{shape-the_row-Query-0, hidden-the_row-Query-0, shape-the_row-Sublink-1, hidden-the_row-Sublink-1}
 use Rattle.bag_algebra.specs.declared.query.Query.TheVariants.{Filter, Join, Table}
-use Rattle.bag_algebra.specs.declared.query.SubKind.TheVariants.{Any, Exists}
+use Rattle.bag_algebra.specs.declared.query.SubKind.TheVariants.{Any}
 use Rattle.bag_algebra.specs.declared.query.Sublink.{Sublink}
 use Rattle.contribution.specs.Conjunctions.{always}
 use Rattle.rewrite_sublink.specs.joins.ByParts.{by_parts}
 use Rattle.rewrite_sublink.specs.Candidates.{all_contributed}
-use Rattle.worked_examples.specs.Queries.{none, num, x, y, holding, col, compared, and_also, r, s, printed}
-
-abbrev r_kinds : List Kind
-r_kinds = kind.Integer ∷ kind.Text ∷ []
+use Rattle.worked_examples.specs.Queries.{none, num, x, y, holding, col, compared, and_also, r, s, printed, int_and_text, one_and_two}
+use Rattle.worked_examples.specs.RewrittenRows.{below, exists, table, twice}
 
 abbrev s_table : Query
-s_table = Table 2 (kind.Integer ∷ [])
+s_table = table 2
 
 -- rewritings of the sources: their columns, and again as their provenance
 abbrev r_twice : Query
-r_twice = ProjectOf (Table 1 r_kinds) (column_items r_kinds (0 ∷ 1 ∷ 0 ∷ 1 ∷ [])) none end_of-Sublink
+r_twice = ProjectOf (Table 1 int_and_text) (column_items int_and_text (0 ∷ 1 ∷ 0 ∷ 1 ∷ [])) none end_of-Sublink
 
 abbrev s_twice : Query
-s_twice = ProjectOf s_table (column_items (kind.Integer ∷ []) (0 ∷ 0 ∷ [])) none end_of-Sublink
+s_twice = twice 2
 
 -- all pairs: a, b, c, and then the provenance of r and that of s
 abbrev crossed : Query
@@ -57,15 +54,6 @@ rewritten kind sub standing rewriting =
     by_parts kind r r_twice s s_twice (all_contributed (Filter crossed on (standing ∷ [])) (sub ∷ []) (standing ∷ []) (rewriting ∷ []))
 
 -- ---- r LEFT JOIN s ON r.a = s.c AND EXISTS (SELECT c FROM s z WHERE z.c < r.a)
-
-abbrev below : Query → Query
-below q = FilterOf q (compared compare.Less (col 0 0) (col 1 0)) none end_of-Sublink
-
-abbrev exists : Query → Sublink
-exists q = record { kind = Exists; tested = None; query = below q }
-
-abbrev one_and_two : Database
-one_and_two = holding ((num 1 ∷ x ∷ []) ∷ (num 2 ∷ y ∷ []) ∷ []) ((num 1 ∷ []) ∷ (num 2 ∷ []) ∷ [])
 
 -- the pair of 1 and 1 meets the equation and not the sublink, so its left row stands alone
 abbrev rows_of_left : Bag

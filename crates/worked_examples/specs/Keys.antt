@@ -1,15 +1,14 @@
 -- What is kept of a query from one outer row to the next, and by which columns its rows are found, worked out: a filter below
 -- other nodes, equations under IS TRUE, and equations beside a guard. An outer row is one of r(a INTEGER, v), the rows those
 -- of s(c INTEGER).
-use Rattle.std.specs.Prelude.{◌≡◌, ℕ, true, false, [], ◌∷◌, List, Some, None, refl}
+use Rattle.std.specs.Prelude.{◌≡◌, true, false, [], ◌∷◌, List, Some, None, refl}
 use Rattle.null_logic.specs.declared.arith.Arith.TheVariants.{Add}
 use Rattle.null_logic.specs.declared.compare.Compare.TheVariants.{Equal, Greater}
-use Rattle.null_logic.specs.declared.operator.Operator.TheVariants as op
 use Rattle.null_logic.specs.declared.truth.Truth.TheVariants as truth
 use Rattle.perm_values.specs.declared.value.Value.TheVariants.{Null, Boolean}
 use Rattle.bag_algebra.specs.Bags.{Row, Bag}
-use Rattle.bag_algebra.specs.built.Patterns.{AggregateOf, DistinctOf, FilterOf, IsTruthOf, OpOf, ProjectOf, SameOf}
-use Rattle.bag_algebra.specs.declared.expr.Expr.{Expr, more_of-Expr, end_of-Expr}
+use Rattle.bag_algebra.specs.built.Patterns.{AggregateOf, DistinctOf, FilterOf, IsTruthOf, ProjectOf, SameOf}
+use Rattle.bag_algebra.specs.declared.expr.Expr.{Expr}
 use Rattle.bag_algebra.specs.declared.expr.Expr.TheVariants.{Sub}
 use Rattle.bag_algebra.specs.declared.query.Query.{Query, more_of-Sublink, end_of-Sublink}
 use Rattle.bag_algebra.specs.declared.query.SubKind.TheVariants.{Exists}
@@ -19,10 +18,7 @@ use Rattle.row_joins.specs.Guards.{guard_holds, keyed_columns}
 use Rattle.row_joins.specs.Hashed.{met_rows, on_pair}
 use Rattle.row_joins.specs.declared.pairs.PairLayout.TheVariants.{Around}
 use Rattle.row_nodes.specs.Keeping.{keyed_at}
-use Rattle.worked_examples.specs.Queries.{and_also, col, compared, isnt, item, number, num, one, reckoned, s, two}
-
-abbrev either : Expr → Expr → Expr
-either a b = OpOf op.Or two (more_of-Expr a (more_of-Expr b end_of-Expr))
+use Rattle.worked_examples.specs.Queries.{and_also, col, compared, isnt, item, number, num, one, or_else as either, reckoned, s}
 
 abbrev is_true : Expr → Expr
 is_true a = IsTruthOf truth.True a

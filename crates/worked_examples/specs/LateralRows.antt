@@ -3,7 +3,7 @@
 use Rattle.std.specs.Prelude.{◌≡◌, [], ◌∷◌, Some, refl, codes}
 use Rattle.null_logic.specs.declared.compare.Compare.TheVariants as compare
 use Rattle.perm_values.specs.declared.kind.Kind.TheVariants as kind
-use Rattle.perm_values.specs.declared.value.Value.TheVariants.{Integer, Null}
+use Rattle.perm_values.specs.declared.value.Value.TheVariants.{Null}
 use Rattle.bag_algebra.specs.Bags.{Bag}
 use Rattle.bag_algebra.specs.ColumnItems.{column_items}
 use Rattle.bag_algebra.specs.Outcome.{Good}
@@ -18,7 +18,8 @@ use Rattle.bag_algebra.specs.declared.query.Query.TheVariants.{Filter}
 use Rattle.bag_algebra.specs.declared.query.SubKind.TheVariants.{Any}
 use Rattle.bag_algebra.specs.declared.query.Sublink.{Sublink}
 use Rattle.lateral_rewrite.specs.Dependent.{all_contributed}
-use Rattle.worked_examples.specs.RewrittenRows.{num, printed, compared, isnt, table, twice, node, below, exists, three_and_two, rows_below, all_others, rows_alike, scalar, one_and_none}
+use Rattle.worked_examples.specs.Queries.{num, compared, isnt, printed}
+use Rattle.worked_examples.specs.RewrittenRows.{table, twice, node, below, exists, three_and_two, rows_below, all_others, rows_alike, scalar, one_and_none}
 
 abbrev rewritten : Expr → Sublink → Query → Query
 rewritten condition standing rewriting = all_contributed (Filter (twice 1) condition (standing ∷ [])) (standing ∷ []) (rewriting ∷ [])

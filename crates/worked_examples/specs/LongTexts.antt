@@ -22,7 +22,8 @@ use Rattle.sql_tree.specs.declared.source.JoinWord.{JoinWord}
 use Rattle.sql_tree.specs.declared.source.JoinWord.TheVariants.{Inner, Right, Full, Cross}
 use Rattle.sql_tree.specs.declared.source.ScopeMark.TheVariants as mark
 use Rattle.sql_tree.specs.declared.statement.StatementBody.TheVariants as st
-use Rattle.worked_examples.specs.Trees.{expr, int, name, column, a, b, c, query, select, step, source_at}
+use Rattle.worked_examples.specs.NamedTrees.{name, expr, column, number as int, operand as step, query}
+use Rattle.worked_examples.specs.Trees.{a, b, c, select, source_at}
 
 abbrev joined : JoinWord → FromItem → ExprTree → JoinStep
 joined word item condition = roll-JoinStep (record { word = word; item = item; condition = Some condition })

@@ -1,4 +1,4 @@
--- Words to write syntax trees by, with the offsets of their tokens, and a catalog for worked examples of names.
+-- Words to write syntax trees by, with the offsets of their tokens.
 use Rattle.std.specs.Prelude.{ℕ, suc, ◌+◌, ℤ, pos, Bool, false, List, [], length, Option, Some, None}
 use Rattle.null_logic.specs.declared.arith.Arith.{Arith}
 use Rattle.perm_values.specs.declared.kind.Kind.{Kind}

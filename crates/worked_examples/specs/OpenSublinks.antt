@@ -13,7 +13,8 @@ use Rattle.bag_algebra.specs.declared.query.Sublink.{Sublink}
 use Rattle.lateral_rewrite.specs.Dependent as dependent
 use Rattle.rewrite_core.specs.rewritings.OpenSublinks.{IsClosedSublink, NoOpenSublink, NoSublinkReadsOut}
 use Rattle.rewrite_sublink.specs.Candidates as candidate
-use Rattle.worked_examples.specs.RewrittenRows.{all_others, exists, isnt, node, s, table, twice}
+use Rattle.worked_examples.specs.Queries.{isnt, s}
+use Rattle.worked_examples.specs.RewrittenRows.{all_others, exists, node, table, twice}
 
 -- ---- SELECT a FROM r WHERE NOT a <> ALL (SELECT c FROM s)
 

@@ -1,10 +1,8 @@
 -- Worked examples of places, of their names and of what stands at them: over r(a INTEGER, b TEXT) and s(c INTEGER).
-use Rattle.std.specs.Prelude.{◌≡◌, ℕ, pos, true, cond, ◌==◌, List, [], ◌∷◌, ◌++◌, Some, None, refl, codes}
+use Rattle.std.specs.Prelude.{◌≡◌, ℕ, true, List, [], ◌∷◌, ◌++◌, Some, None, refl, codes}
 use Rattle.std.specs.Fmt.{decimal}
-use Rattle.perm_values.specs.declared.kind.Kind.{Kind}
 use Rattle.perm_values.specs.declared.kind.Kind.TheVariants as kind
-use Rattle.perm_values.specs.declared.value.Value.{Value}
-use Rattle.perm_values.specs.declared.value.Value.TheVariants.{Integer, Text}
+use Rattle.perm_values.specs.declared.value.Value.TheVariants.{Text}
 use Rattle.bag_algebra.specs.Kinds.{shape}
 use Rattle.bag_algebra.specs.Meaning.{Database, witnesses}
 use Rattle.bag_algebra.specs.Means.{Held, Empty}
@@ -18,9 +16,7 @@ use Rattle.bag_algebra.specs.declared.query.Query.{Query, more_of-Sublink, end_o
 use Rattle.bag_algebra.specs.declared.query.Query.TheVariants.{Table, Single}
 use Rattle.bag_algebra.specs.declared.query.SubKind.TheVariants.{Exists}
 use Rattle.contribution.specs.HeldRows.{held_rows}
-
-abbrev two_columns : List Kind
-two_columns = kind.Integer ∷ kind.Text ∷ []
+use Rattle.worked_examples.specs.Queries.{holding, int_and_text, num, r, s, x}
 
 abbrev label_r : Label
 label_r = Relation (codes "r") (codes "a" ∷ codes "b" ∷ [])
@@ -29,7 +25,7 @@ abbrev label_s : Label
 label_s = Relation (codes "s") (codes "c" ∷ [])
 
 abbrev place_r : Place
-place_r = record { label = label_r; kinds = two_columns }
+place_r = record { label = label_r; kinds = int_and_text }
 
 abbrev place_s : Place
 place_s = record { label = label_s; kinds = kind.Integer ∷ [] }
@@ -47,12 +43,6 @@ pub names-of_places :
     ∷ numbered (codes "r") 2 (codes "a") ∷ numbered (codes "r") 2 (codes "b") ∷ numbered (codes "s") 1 (codes "c") ∷ []
 names-of_places = refl
 
-abbrev r : Query
-r = BaseOf (Table 1 two_columns) (0 ∷ 1 ∷ []) label_r
-
-abbrev s : Query
-s = BaseOf (Table 2 (kind.Integer ∷ [])) (0 ∷ []) label_s
-
 -- SELECT a FROM r WHERE EXISTS (SELECT c FROM s)
 abbrev exists_query : Query
 exists_query =
@@ -63,11 +53,8 @@ exists_query =
 pub places-of_sublinks : shape exists_query ≡ place_r ∷ place_s ∷ []
 places-of_sublinks = refl
 
-abbrev num : ℕ → Value
-num n = Integer (pos n)
-
 abbrev data_of : Database
-data_of id = cond (id == 1) ((num 7 ∷ Text (codes "x") ∷ []) ∷ []) (cond (id == 2) ((num 3 ∷ []) ∷ (num 4 ∷ []) ∷ []) [])
+data_of = holding ((num 7 ∷ x ∷ []) ∷ []) ((num 3 ∷ []) ∷ (num 4 ∷ []) ∷ [])
 
 pub rows-at_places :
     held_rows exists_query data_of (Some [])

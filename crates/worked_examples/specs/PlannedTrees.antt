@@ -1,43 +1,25 @@
 -- The trees of the worked plans, with the offset of each node, written out by hand.
-use Rattle.std.specs.Prelude.{◌≡◌, ℕ, pos, false, List, [], ◌∷◌, Option, Some, None, codes, refl}
+use Rattle.std.specs.Prelude.{◌≡◌, ℕ, false, List, [], ◌∷◌, Option, Some, None, codes, refl}
 use Rattle.std.specs.Fmt.{digits}
 use Rattle.null_logic.specs.declared.compare.Compare.TheVariants as compare
 use Rattle.sql_tree.specs.grammar.Sorts.{word_sort, symbol_sort, same_sort}
-use Rattle.sql_tree.specs.declared.expression.ExprBody.{ExprBody}
 use Rattle.sql_tree.specs.declared.expression.ExprBody.TheVariants as e
 use Rattle.sql_tree.specs.declared.expression.ExprTree.{ExprTree}
-use Rattle.sql_tree.specs.declared.name.Name.{Name}
 use Rattle.sql_tree.specs.declared.query.Core.{roll-Core}
-use Rattle.sql_tree.specs.declared.query.QueryTree.{QueryTree}
 use Rattle.sql_tree.specs.declared.query.SelectItem.TheVariants.{Value}
 use Rattle.sql_tree.specs.declared.query.SetTree.{SetTree}
 use Rattle.sql_tree.specs.declared.query.SetTree.TheVariants as set
 use Rattle.sql_tree.specs.declared.query.SetWord.TheVariants.{Union}
-use Rattle.sql_tree.specs.declared.source.FromItem.{FromItem}
 use Rattle.sql_tree.specs.declared.source.FromSource.TheVariants as source
 use Rattle.sql_tree.specs.declared.source.FromTree.{FromTree, roll-FromTree}
 use Rattle.sql_tree.specs.declared.source.JoinStep.{roll-JoinStep}
 use Rattle.sql_tree.specs.declared.source.JoinWord.TheVariants.{Inner, LeftLateral}
 use Rattle.sql_tree.specs.declared.source.ScopeMark.TheVariants.{Plain}
 use Rattle.tree_texts.specs.plans.Plans.{value}
+use Rattle.worked_examples.specs.NamedTrees.{name, expr, column, number as int, table, query}
 use Rattle.worked_examples.specs.PlannedTexts.{select_join, select_lateral, union, select_exists}
 
 -- ---- nodes, each at its offset
-
-abbrev expr : ℕ → ExprBody → ExprTree
-expr at body = record { at = at; body = body }
-
-abbrev int : ℕ → ℕ → ExprTree
-int at number = expr at (e.Integer (pos number))
-
-abbrev name : ℕ → List ℕ → Name
-name at text = record { text = text; at = at }
-
-abbrev column : ℕ → List ℕ → ExprTree
-column at text = expr at (e.Column (record { at = at; table = None; name = name at text }))
-
-abbrev table : ℕ → List ℕ → FromItem
-table at text = record { at = at; source = source.Named (name at text); alias = None; mark = Plain }
 
 abbrev select : ℕ → ExprTree → List FromTree → Option ExprTree → SetTree
 select at one sources condition = set.Core (roll-Core (record {
@@ -50,9 +32,6 @@ select at one sources condition = set.Core (roll-Core (record {
   groups = [];
   having = None;
 }))
-
-abbrev query : ℕ → SetTree → QueryTree
-query at body = record { at = at; body = body; order = []; limit = None }
 
 -- ---- trees
 

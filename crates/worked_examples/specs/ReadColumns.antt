@@ -18,11 +18,11 @@ use Rattle.rewrite_sublink.specs.Candidates.{matching, or_nulls}
 use Rattle.worked_examples.specs.RewrittenRows.{below, table, twice}
 
 -- the rows of a table where the column at this level and place is true
-abbrev reading : ℕ → ℕ → Query
+abbrev pub reading : ℕ → ℕ → Query
 reading level place = FilterOf (table 1) (Col level place) [] end_of-Sublink
 
 -- those where a sublink over the query is, with this left operand
-abbrev asking : Option Expr → Query → Query
+abbrev pub asking : Option Expr → Query → Query
 asking tested query = FilterOf (table 1) (Sub 0) (tt ∷ []) (more_of-Sublink Exists tested query end_of-Sublink)
 
 -- ---- whose row a column is of

@@ -18,7 +18,7 @@ use Rattle.bag_algebra.specs.declared.query.SubKind.TheVariants.{Any}
 use Rattle.bag_algebra.specs.declared.query.Query.{Query, end_of-Sublink}
 use Rattle.bag_algebra.specs.declared.query.Query.TheVariants.{Table}
 use Rattle.query_laws.specs.replaced.OverQueries.{over_queries, standing}
-use Rattle.worked_examples.specs.Queries.{none, num, x, y, holding, col, number, compared, r, s, item, select, select_a, where_sub, printed}
+use Rattle.worked_examples.specs.Queries.{none, num, x, y, holding, col, number, compared, r, s, item, select, select_a, where_sub, printed, traced}
 
 abbrev columns : List Kind
 columns = kind.Integer ∷ kind.Integer ∷ kind.Text ∷ []
@@ -29,10 +29,6 @@ t = Table 3 columns
 
 abbrev storing : Bag → Bag → Bag → Database
 storing ts rs ss id = cond (id == 3) ts (holding rs ss id)
-
--- SELECT PROVENANCE a FROM r
-abbrev traced : Query
-traced = ProvOf (select_a r)
 
 abbrev replaced : Query → Query
 replaced q = over_queries (standing 3 traced) q

@@ -1,20 +1,16 @@
 -- Worked examples of rewritten sublinks over the tables r(a INTEGER) and s(c INTEGER): the rewriting has the rows of the
 -- PROVENANCE of the query.
-use Rattle.std.specs.Prelude.{◌≡◌, ℕ, pos, cond, ◌==◌, [], ◌∷◌, Some, None, refl, codes}
-use Rattle.null_logic.specs.declared.compare.Compare.{Compare}
+use Rattle.std.specs.Prelude.{◌≡◌, ℕ, [], ◌∷◌, Some, None, refl, codes}
 use Rattle.null_logic.specs.declared.compare.Compare.TheVariants as compare
-use Rattle.null_logic.specs.declared.operator.Operator.TheVariants as op
-use Rattle.perm_values.specs.Rows.{row_cmp}
 use Rattle.perm_values.specs.declared.kind.Kind.TheVariants as kind
-use Rattle.perm_values.specs.declared.value.Value.{Value}
-use Rattle.perm_values.specs.declared.value.Value.TheVariants.{Integer, Null}
-use Rattle.bag_algebra.specs.Bags.{Bag, sorted}
+use Rattle.perm_values.specs.declared.value.Value.TheVariants.{Null}
+use Rattle.bag_algebra.specs.Bags.{Bag}
 use Rattle.bag_algebra.specs.ColumnItems.{column_items}
 use Rattle.bag_algebra.specs.Measures.{height_of, size_of}
-use Rattle.bag_algebra.specs.Meaning.{Database, meaning}
-use Rattle.bag_algebra.specs.Outcome.{Outcome, Good, mapped}
-use Rattle.bag_algebra.specs.built.Patterns.{BaseOf, FilterOf, IsNullOf, OpOf, ProjectOf, ProvOf}
-use Rattle.bag_algebra.specs.declared.expr.Expr.{Expr, more_of-Expr, end_of-Expr}
+use Rattle.bag_algebra.specs.Meaning.{Database}
+use Rattle.bag_algebra.specs.Outcome.{Good}
+use Rattle.bag_algebra.specs.built.Patterns.{BaseOf, FilterOf, IsNullOf, ProjectOf, ProvOf}
+use Rattle.bag_algebra.specs.declared.expr.Expr.{Expr}
 use Rattle.bag_algebra.specs.declared.expr.Expr.TheBlock.{shape-the_row-Expr-0, hidden-the_row-Expr-0, shape-the_row-Expr-1, hidden-the_row-Expr-1, shape-the_row-Arm-3, hidden-the_row-Arm-3}
 use Rattle.bag_algebra.specs.declared.expr.Expr.TheVariants.{Col, Sub}
 use Rattle.bag_algebra.specs.declared.query.Label.TheVariants.{Relation}
@@ -24,32 +20,13 @@ use Rattle.bag_algebra.specs.declared.query.Query.TheVariants.{Filter, Table}
 use Rattle.bag_algebra.specs.declared.query.SubKind.TheVariants.{Exists, All, Scalar}
 use Rattle.bag_algebra.specs.declared.query.Sublink.{Sublink}
 use Rattle.rewrite_sublink.specs.Candidates.{all_contributed}
-
-abbrev pub num : ℕ → Value
-num n = Integer (pos n)
-
--- r has identity 1, s has identity 2
-abbrev pub holding : Bag → Bag → Database
-holding rs ss id = cond (id == 1) rs (cond (id == 2) ss [])
-
--- the answer of a query, in the printed order
-abbrev pub printed : Query → Database → Outcome Bag
-printed q db = mapped (sorted row_cmp) (meaning q db [])
-
-abbrev pub compared : Compare → Expr → Expr → Expr
-compared c a b = OpOf (op.Compare c) (tt ∷ tt ∷ []) (more_of-Expr a (more_of-Expr b end_of-Expr))
-
-abbrev pub isnt : Expr → Expr
-isnt a = OpOf op.Not (tt ∷ []) (more_of-Expr a end_of-Expr)
+use Rattle.worked_examples.specs.Queries.{num, holding, compared, isnt, s, printed}
 
 abbrev pub table : ℕ → Query
 table id = Table id (kind.Integer ∷ [])
 
 abbrev pub r : Query
 r = BaseOf (table 1) (0 ∷ []) (Relation (codes "r") (codes "a" ∷ []))
-
-abbrev pub s : Query
-s = BaseOf (table 2) (0 ∷ []) (Relation (codes "s") (codes "c" ∷ []))
 
 -- the rewriting of a source: its column, and again as its provenance
 abbrev pub twice : ℕ → Query

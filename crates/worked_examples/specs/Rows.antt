@@ -10,13 +10,11 @@ use Rattle.bag_algebra.specs.Meaning.{Database}
 use Rattle.bag_algebra.specs.Outcome.{Good, Bad, only}
 use Rattle.bag_algebra.specs.built.Patterns.{FilterOf, ProjectOf, JoinOf, UnionOf, ExceptOf, AggregateOf, ProvOf}
 use Rattle.bag_algebra.specs.declared.expr.Expr.TheVariants.{Sub}
-use Rattle.bag_algebra.specs.declared.query.Aggr.{Aggr}
-use Rattle.bag_algebra.specs.declared.query.AggFn.TheVariants.{CountRows}
 use Rattle.bag_algebra.specs.declared.query.JoinKind.TheVariants.{Inner, Left}
 use Rattle.bag_algebra.specs.declared.query.SubKind.TheVariants.{Exists, Any, All, Scalar}
 use Rattle.bag_algebra.specs.declared.query.Query.{Query, more_of-Sublink, end_of-Sublink}
 use Rattle.bag_algebra.specs.declared.query.Query.TheVariants.{Table, Single}
-use Rattle.worked_examples.specs.Queries.{none, one, num, x, y, z, holding, col, number, yes, compared, and_also, reckoned, isnt, r, s, item, named, truth, select, select_a, where_sub, printed}
+use Rattle.worked_examples.specs.Queries.{none, one, num, x, y, z, holding, col, number, yes, compared, and_also, reckoned, isnt, r, s, item, named, truth, select, select_a, where_sub, printed, count_rows}
 
 -- SELECT a FROM r, and with PROVENANCE
 abbrev twice : Database
@@ -40,9 +38,6 @@ pub union-pads :
     printed (ProvOf (UnionOf false (select_a r) (select_a s))) (holding ((num 1 ∷ x ∷ []) ∷ []) ((num 1 ∷ []) ∷ []))
     ≡ Good ((num 1 ∷ num 1 ∷ x ∷ Null ∷ []) ∷ (num 1 ∷ Null ∷ Null ∷ num 1 ∷ []) ∷ [])
 union-pads = refl
-
-abbrev count_rows : Aggr
-count_rows = record { function = CountRows; argument = None; kind = kind.Integer }
 
 -- SELECT PROVENANCE COUNT(*) FROM s
 pub aggregate-over_no_row :

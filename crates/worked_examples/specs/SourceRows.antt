@@ -12,16 +12,13 @@ use Rattle.bag_algebra.specs.declared.query.Label.TheVariants.{Relation, Externa
 use Rattle.bag_algebra.specs.declared.query.SubKind.TheVariants.{Any, All, Scalar}
 use Rattle.bag_algebra.specs.declared.query.Query.{Query, more_of-Sublink, end_of-Sublink}
 use Rattle.bag_algebra.specs.declared.query.Query.TheVariants.{Table}
-use Rattle.worked_examples.specs.Queries.{none, two, num, x, y, holding, col, number, compared, and_also, isnt, r, s, select_a, printed}
+use Rattle.worked_examples.specs.Queries.{none, two, num, x, y, holding, col, number, compared, and_also, isnt, r, s, select_a, printed, one_and_two, traced}
 
 -- ---- BASERELATION: the source is the query itself, and nothing inside counts
 
 -- SELECT a FROM r WHERE a > 1
 abbrev large : Query
 large = select_a (FilterOf r (compared compare.Greater (col 0 0) (number 1)) none end_of-Sublink)
-
-abbrev one_and_two : Database
-one_and_two = holding ((num 1 ∷ x ∷ []) ∷ (num 2 ∷ y ∷ []) ∷ []) ((num 1 ∷ []) ∷ (num 2 ∷ []) ∷ [])
 
 -- SELECT PROVENANCE a FROM v BASERELATION, where v is that query, and without the mark
 base-over_a_query : printed (ProvOf (select_a (BaseOf large (0 ∷ []) (Relation (codes "v") (codes "a" ∷ []))))) one_and_two
@@ -48,10 +45,6 @@ external-attributes :
 external-attributes = refl
 
 -- ---- PROVENANCE in PROVENANCE
-
--- SELECT PROVENANCE a FROM r
-abbrev traced : Query
-traced = ProvOf (select_a r)
 
 abbrev single : Database
 single = holding ((num 1 ∷ x ∷ []) ∷ []) []

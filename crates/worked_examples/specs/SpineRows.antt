@@ -4,7 +4,6 @@ use Rattle.null_logic.specs.declared.arith.Arith.TheVariants.{Add}
 use Rattle.null_logic.specs.declared.compare.Compare.TheVariants as compare
 use Rattle.perm_values.specs.declared.kind.Kind.TheVariants as kind
 use Rattle.perm_values.specs.declared.value.Value.TheVariants.{Null}
-use Rattle.bag_algebra.specs.Meaning.{Database}
 use Rattle.bag_algebra.specs.Outcome.{Good}
 use Rattle.bag_algebra.specs.built.Patterns.{AggregateOf, ApplyOf, DistinctOf, FilterOf, LimitOf}
 use Rattle.bag_algebra.specs.declared.query.AggFn.TheVariants.{Max}
@@ -15,23 +14,16 @@ use Rattle.bag_algebra.specs.declared.query.SubKind.TheVariants.{Any, Exists, Sc
 use Rattle.query_laws.specs.spines.Spines.{all_behind, is_spine, spine_join}
 use Rattle.query_laws.specs.declared.spines.spine.Spine.{Spine}
 use Rattle.rewrite_move.specs.Traced.{below_groups, traced_of, traced_sub}
-use Rattle.worked_examples.specs.Queries.{none, num, x, y, holding, col, number, compared, r, s, item, select, printed, reckoned}
+use Rattle.worked_examples.specs.Queries.{none, num, x, y, holding, col, number, compared, r, s, item, select, printed, reckoned, same, two_alone}
 
 -- ---- joins over spines
 
--- SELECT c FROM s WHERE c = r.a, beside a row of r, which has two columns
-abbrev same : Query
-same = FilterOf s (compared compare.Equal (col 0 0) (col 1 0)) none end_of-Sublink
-
--- of the two rows together: column 2 is c, and column 0 is a
+-- of a row of r, which has two columns, and one of s together: column 2 is c, and column 0 is a
 abbrev same_spine : Spine
 same_spine = record { base = s; test = Some (compared compare.Equal (col 0 2) (col 0 0)); items = item (col 0 2) ∷ [] }
 
 abbrev joined : JoinKind → Query
 joined kind = spine_join kind r same_spine
-
-abbrev two_alone : Database
-two_alone = holding ((num 1 ∷ x ∷ []) ∷ (num 2 ∷ y ∷ []) ∷ (num 2 ∷ y ∷ []) ∷ (Null ∷ x ∷ []) ∷ []) ((num 2 ∷ []) ∷ (num 2 ∷ []) ∷ (Null ∷ []) ∷ [])
 
 inner-joined : printed (joined Inner) two_alone
     ≡ Good ((num 2 ∷ y ∷ num 2 ∷ []) ∷ (num 2 ∷ y ∷ num 2 ∷ []) ∷ (num 2 ∷ y ∷ num 2 ∷ []) ∷ (num 2 ∷ y ∷ num 2 ∷ []) ∷ [])

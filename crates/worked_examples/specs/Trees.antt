@@ -1,12 +1,11 @@
 -- Worked examples of the grammar: texts and their trees, with the offset of each node, written out by hand.
-use Rattle.std.specs.Prelude.{◌≡◌, ℕ, ◌+◌, pos, Bool, true, false, List, [], ◌∷◌, Option, Some, None, codes, refl}
+use Rattle.std.specs.Prelude.{◌≡◌, ℕ, ◌+◌, pos, true, false, List, [], ◌∷◌, Option, Some, None, codes, refl}
 use Rattle.null_logic.specs.declared.arith.Arith.TheVariants as arith
 use Rattle.null_logic.specs.declared.compare.Compare.TheVariants as compare
 use Rattle.null_logic.specs.declared.operator.Operator.TheVariants.{And, Or}
 use Rattle.null_logic.specs.declared.truth.Truth.TheVariants as truth
 use Rattle.sql_tree.specs.grammar.Symbols as n
 use Rattle.sql_tree.specs.declared.expression.AggWord.TheVariants.{CountDistinct}
-use Rattle.sql_tree.specs.declared.expression.ExprBody.{ExprBody}
 use Rattle.sql_tree.specs.declared.expression.ExprBody.TheVariants as e
 use Rattle.sql_tree.specs.declared.expression.ExprTree.{ExprTree}
 use Rattle.sql_tree.specs.declared.name.Name.{Name}
@@ -15,10 +14,8 @@ use Rattle.sql_tree.specs.declared.query.OrderKey.TheVariants.{Position}
 use Rattle.sql_tree.specs.declared.query.QueryTree.{QueryTree}
 use Rattle.sql_tree.specs.declared.query.SelectItem.{SelectItem}
 use Rattle.sql_tree.specs.declared.query.SelectItem.TheVariants as item
-use Rattle.sql_tree.specs.declared.query.SetStep.{SetStep}
 use Rattle.sql_tree.specs.declared.query.SetTree.{SetTree}
 use Rattle.sql_tree.specs.declared.query.SetTree.TheVariants as set
-use Rattle.sql_tree.specs.declared.query.SetWord.{SetWord}
 use Rattle.sql_tree.specs.declared.query.SetWord.TheVariants.{Union, Except, Intersect}
 use Rattle.sql_tree.specs.declared.source.FromItem.{FromItem}
 use Rattle.sql_tree.specs.declared.source.FromSource.TheVariants as source
@@ -29,20 +26,9 @@ use Rattle.sql_tree.specs.declared.source.JoinWord.TheVariants.{Left, Cross, Cro
 use Rattle.sql_tree.specs.declared.source.ScopeMark.TheVariants.{Plain}
 use Rattle.sql_tree.specs.declared.statement.StatementBody.TheVariants.{DropTable}
 use Rattle.sql_parser.specs.Texts.{tree_in}
+use Rattle.worked_examples.specs.NamedTrees.{name, expr, column, number as int, operand as step, query}
 
 -- ---- nodes, each at its offset
-
-abbrev pub expr : ℕ → ExprBody → ExprTree
-expr at body = record { at = at; body = body }
-
-abbrev pub int : ℕ → ℕ → ExprTree
-int at value = expr at (e.Integer (pos value))
-
-abbrev pub name : ℕ → List ℕ → Name
-name at text = record { text = text; at = at }
-
-abbrev pub column : ℕ → List ℕ → ExprTree
-column at text = expr at (e.Column (record { at = at; table = None; name = name at text }))
 
 abbrev pub a : ℕ → ExprTree
 a at = column at (codes "a")
@@ -52,9 +38,6 @@ b at = column at (codes "b")
 
 abbrev pub c : ℕ → ExprTree
 c at = column at (codes "c")
-
-abbrev pub query : ℕ → SetTree → QueryTree
-query at body = record { at = at; body = body; order = []; limit = None }
 
 abbrev pub selecting : ℕ → SelectItem → List FromTree → SetTree
 selecting at one sources = set.Core (roll-Core (record {
@@ -71,9 +54,6 @@ selecting at one sources = set.Core (roll-Core (record {
 -- SELECT and a number
 abbrev pub select : ℕ → ExprTree → SetTree
 select at part = selecting at (item.Value part None) []
-
-abbrev pub step : SetWord → Bool → ℕ → SetTree → SetStep
-step operation all at operand = record { word = operation; all = all; at = at; operand = operand }
 
 abbrev pub source_at : ℕ → List ℕ → Option Name → FromItem
 source_at at table alias = record { at = at; source = source.Named (name at table); alias = alias; mark = Plain }

@@ -15,7 +15,7 @@ use Rattle.bag_algebra.specs.Outcome.{Good, Bad, only}
 use Rattle.bag_algebra.specs.built.Patterns.{CaseOf}
 use Rattle.bag_algebra.specs.declared.expr.Expr.{Expr, more_of-Arm, end_of-Arm}
 use Rattle.bag_algebra.specs.declared.expr.Expr.TheVariants.{Lit}
-use Rattle.worked_examples.specs.Queries.{one, two, num, number, yes, compared, and_also, reckoned}
+use Rattle.worked_examples.specs.Queries.{one, two, num, number, yes, compared, and_also, reckoned, by_zero}
 
 -- ---- arithmetic of 64 bits
 
@@ -60,9 +60,6 @@ minus-least = refl
 
 abbrev null : Expr
 null = Lit Null kind.Integer
-
-abbrev by_zero : Expr
-by_zero = reckoned Divide (number 1) (number 0)
 
 null-by_zero : value (reckoned Divide null (number 0)) [] [] [] ≡ Good Null
 null-by_zero = refl

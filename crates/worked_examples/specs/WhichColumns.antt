@@ -1,23 +1,14 @@
 -- Which columns of its outer rows a query reads, worked out: by the row's level, 0 being the nearest, and the place.
-use Rattle.std.specs.Prelude.{◌≡◌, ℕ, true, [], ◌∷◌, Option, Some, None, refl}
+use Rattle.std.specs.Prelude.{◌≡◌, true, [], ◌∷◌, Some, None, refl}
 use Rattle.perm_values.specs.declared.kind.Kind.TheVariants as kind
-use Rattle.bag_algebra.specs.built.Patterns.{AggregateOf, ApplyOf, FilterOf, JoinOf, ProjectOf, UnionOf}
-use Rattle.bag_algebra.specs.declared.expr.Expr.{Expr}
-use Rattle.bag_algebra.specs.declared.expr.Expr.TheVariants.{Col, Sub}
+use Rattle.bag_algebra.specs.built.Patterns.{AggregateOf, ApplyOf, JoinOf, ProjectOf, UnionOf}
+use Rattle.bag_algebra.specs.declared.expr.Expr.TheVariants.{Col}
 use Rattle.bag_algebra.specs.declared.query.AggFn.TheVariants.{Sum}
 use Rattle.bag_algebra.specs.declared.query.JoinKind.TheVariants.{Inner}
-use Rattle.bag_algebra.specs.declared.query.Query.{Query, more_of-Sublink, end_of-Sublink}
-use Rattle.bag_algebra.specs.declared.query.SubKind.TheVariants.{Exists}
+use Rattle.bag_algebra.specs.declared.query.Query.{end_of-Sublink}
 use Rattle.query_facts.specs.reached.reads.Columns.{column_at, columns_of}
+use Rattle.worked_examples.specs.ReadColumns.{asking, reading}
 use Rattle.worked_examples.specs.RewrittenRows.{table}
-
--- the rows of a table where the column at this level and place is true
-abbrev reading : ℕ → ℕ → Query
-reading level place = FilterOf (table 1) (Col level place) [] end_of-Sublink
-
--- those where a sublink over the query is, with this left operand
-abbrev asking : Option Expr → Query → Query
-asking tested query = FilterOf (table 1) (Sub 0) (tt ∷ []) (more_of-Sublink Exists tested query end_of-Sublink)
 
 no-column : columns_of (table 1) ≡ []
 no-column = refl
