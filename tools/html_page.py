@@ -14,7 +14,7 @@ HERE = pathlib.Path(__file__).resolve().parent
 RESERVED = set(
     "all and any as asc baserelation between by case cast create cross delete desc distinct drop else end except exists false from full "
     "group having in inner insert intersect into is join left like limit not null on or order outer provenance right select some table "
-    "then true union unknown values when where view copy show fresh header explain rewrite".split()
+    "then true union unknown values when where view copy show fresh header explain rewrite impact of lateral".split()
 )
 # Characters that a browser wouldn't show, or would take for something else.
 UNSHOWN = re.compile("[\x00-\x08\x0b\x0c\x0e-\x1f\x7f-\x9f\u202a-\u202e\u2066-\u2069]")
