@@ -6,7 +6,7 @@ use crate::rewritings::sum;
 use bag_algebra::{Query, exact_width};
 use perm_values::NoMemory;
 
-/// SetWidths of a set operation and of its left rewriting, which begins with them.
+/// How many columns a set operation and its left rewriting have, which begins with them.
 #[derive(Clone, Copy)]
 pub(crate) struct SetWidths {
     pub(crate) own: usize,
