@@ -1,10 +1,10 @@
 -- The measures and the tests of a query by the children of its topmost node.
-use Rattle.std.proofs.Common.{◌≡◌, ℕ, suc, ◌+◌, max, Bool, true, false, not, ◌&&◌, List, ◌++◌, append-nil, append_assoc, refl, sym, ap, arith}
+use Rattle.std.proofs.Common.{◌≡◌, ℕ, suc, ◌+◌, max, not, ◌&&◌, List, ◌++◌, append-nil, append_assoc, refl, sym, ap, arith}
 use Rattle.std.specs.List.{list_all}
 use Rattle.bag_algebra.specs.built.Openings.{Base-is, Prov-is}
 use Rattle.bag_algebra.specs.built.FaultFree.{all_fault_free}
 use Rattle.bag_algebra.specs.built.Measures.{inputs_height, subs_height, inputs_size, subs_size}
-use Rattle.bag_algebra.specs.built.Scopes.{all_plain, all_over_tables, all_traceable, all_scoped}
+use Rattle.bag_algebra.specs.built.Scopes.{all_plain, all_over_tables}
 use Rattle.bag_algebra.specs.Children.{inputs_shape, subs_shape}
 use Rattle.bag_algebra.specs.FaultFree.{option_faultless, is_scalar, own_faultless, fault_free, subs_fault_free}
 use Rattle.bag_algebra.specs.Inputs.{inputs_of, sublinks_of}
@@ -12,11 +12,11 @@ use Rattle.bag_algebra.specs.Kinds.{shape, sub_shape}
 use Rattle.bag_algebra.specs.Measures.{height_of, sub_height, size_of, sub_size}
 use Rattle.bag_algebra.specs.built.Patterns.{BaseOf, FilterOf, ProjectOf, JoinOf, ApplyOf, UnionOf, IntersectOf, ExceptOf, DistinctOf, AggregateOf, LimitOf, ProvOf}
 use Rattle.bag_algebra.specs.Rewriting.{is_plain, subs_plain}
-use Rattle.bag_algebra.specs.Scoped.{over_tables, subs_over_tables, no_subs, has_rule, traceable, subs_traceable, is_scoped, subs_scoped}
+use Rattle.bag_algebra.specs.Scoped.{over_tables, subs_over_tables}
 use Rattle.bag_algebra.specs.declared.query.Label.{Label}
 use Rattle.bag_algebra.specs.declared.query.Query.{Query, Row_of-Sublink, more_of-Sublink, end_of-Sublink, items-the_row-Sublink}
 use Rattle.bag_algebra.specs.declared.query.Query.TheVariants.{Table, Single, Base, Prov}
-use Rattle.bag_algebra.proofs.Truths.{and_true, and_associates}
+use Rattle.bag_algebra.proofs.Truths.{and_true}
 
 -- ---- sizes
 
@@ -128,57 +128,6 @@ over_tables-node (DistinctOf input) base prov = simp and_true
 over_tables-node (AggregateOf input groups aggregates) base prov = simp and_true
 over_tables-node (LimitOf input keys count) base prov = simp and_true
 over_tables-node (ProvOf input) base prov = absurd (prov input (sym (Prov-is input)))
-
-subs_traceable-listed : {m : _} (subs : Row_of-Sublink m) → subs_traceable subs ≡ all_traceable (items-the_row-Sublink _ subs)
-subs_traceable-listed end_of-Sublink = refl
-subs_traceable-listed (more_of-Sublink kind tested query subs) = ap (λ b. (over_tables query && traceable query) && b) (subs_traceable-listed subs)
-
-bare-traceable : {m : _} (subs : Row_of-Sublink m) → (no_subs subs && all_traceable (items-the_row-Sublink _ subs)) ≡ no_subs subs
-bare-traceable end_of-Sublink = refl
-bare-traceable (more_of-Sublink kind tested query subs) = refl
-
-no-rule : (a b : Bool) → (a && false && b) ≡ false
-no-rule true b = refl
-no-rule false b = refl
-
--- what is no source is traceable where its children are and it has a rule
-pub traceable-node : (query : Query) → ((input : Query) (places : List ℕ) (label : Label) → query ≡ Base input places label → ⊥)
-    → traceable query ≡ (list_all traceable (inputs_of query) && has_rule query && all_traceable (sublinks_of query))
-traceable-node (Table id kinds) base = refl
-traceable-node Single base = refl
-traceable-node (BaseOf input places label) base = absurd (base input places label (sym (Base-is input places label)))
-traceable-node (FilterOf input condition _ subs) base = simp (and_true, subs_traceable-listed subs)
-traceable-node (ProjectOf input items _ subs) base = simp (and_true, subs_traceable-listed subs)
-traceable-node (JoinOf kind left right condition _ subs) base = simp (and_true, and_associates, bare-traceable subs)
-traceable-node (ApplyOf kind left right) base = sym (no-rule _ _)
-traceable-node (UnionOf all left right) base = simp and_true
-traceable-node (IntersectOf all left right) base = simp and_true
-traceable-node (ExceptOf all left right) base = simp and_true
-traceable-node (DistinctOf input) base = simp and_true
-traceable-node (AggregateOf input groups aggregates) base = simp and_true
-traceable-node (LimitOf input keys count) base = simp and_true
-traceable-node (ProvOf input) base = simp and_true
-
-subs_scoped-listed : {m : _} (subs : Row_of-Sublink m) → subs_scoped subs ≡ all_scoped (items-the_row-Sublink _ subs)
-subs_scoped-listed end_of-Sublink = refl
-subs_scoped-listed (more_of-Sublink kind tested query subs) = ap (λ b. is_scoped query && b) (subs_scoped-listed subs)
-
--- a node that asks for no provenance is scoped where its children are
-pub is_scoped-node : (query : Query) → ((input : Query) → query ≡ Prov input → ⊥) → is_scoped query ≡ (list_all is_scoped (inputs_of query) && all_scoped (sublinks_of query))
-is_scoped-node (Table id kinds) prov = refl
-is_scoped-node Single prov = refl
-is_scoped-node (BaseOf input places label) prov = simp and_true
-is_scoped-node (FilterOf input condition _ subs) prov = simp (and_true, subs_scoped-listed subs)
-is_scoped-node (ProjectOf input items _ subs) prov = simp (and_true, subs_scoped-listed subs)
-is_scoped-node (JoinOf kind left right condition _ subs) prov = simp (and_true, subs_scoped-listed subs)
-is_scoped-node (ApplyOf kind left right) prov = simp and_true
-is_scoped-node (UnionOf all left right) prov = simp and_true
-is_scoped-node (IntersectOf all left right) prov = simp and_true
-is_scoped-node (ExceptOf all left right) prov = simp and_true
-is_scoped-node (DistinctOf input) prov = simp and_true
-is_scoped-node (AggregateOf input groups aggregates) prov = simp and_true
-is_scoped-node (LimitOf input keys count) prov = simp and_true
-is_scoped-node (ProvOf input) prov = absurd (prov input (sym (Prov-is input)))
 
 subs_fault_free-listed : {m : _} (subs : Row_of-Sublink m) → subs_fault_free subs ≡ all_fault_free (items-the_row-Sublink _ subs)
 subs_fault_free-listed end_of-Sublink = refl

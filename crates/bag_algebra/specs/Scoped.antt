@@ -1,5 +1,5 @@
--- The scope of PROVENANCE: the sublinks of a query whose provenance is asked for have sources over tables alone. That is
--- what the strategy Gen of Glavic and Alonso (EDBT 2009) needs, which looks up all rows that a sublink could contribute.
+-- Whether the sources of a query are over tables alone. That is what the strategy Gen of Glavic and Alonso (EDBT 2009) asks of
+-- a sublink, since it looks up all rows that the sublink could contribute.
 use Rattle.std.specs.Prelude.{Bool, true, false, ◌&&◌}
 use Rattle.bag_algebra.specs.built.Patterns.{BaseOf, FilterOf, ProjectOf, JoinOf, ApplyOf, UnionOf, IntersectOf, ExceptOf, DistinctOf, AggregateOf, LimitOf, ProvOf}
 use Rattle.bag_algebra.specs.declared.query.Query.{Query, Row_of-Sublink, more_of-Sublink, end_of-Sublink}
@@ -42,69 +42,3 @@ abbrev mutual
   pub subs_over_tables : {m : _} → Row_of-Sublink m → Bool
   subs_over_tables end_of-Sublink = true
   subs_over_tables (more_of-Sublink kind tested query subs) = over_tables query && subs_over_tables subs
-
-abbrev pub no_subs : {m : _} → Row_of-Sublink m → Bool
-no_subs end_of-Sublink = true
-no_subs (more_of-Sublink kind tested query subs) = false
-
--- whether a node in the scope of PROVENANCE has a rule: dependent joins have none yet, nor have joins with sublinks
-abbrev pub has_rule : Query → Bool
-has_rule (Table id kinds) = true
-has_rule Single = true
-has_rule (Base' _ input places label) = true
-has_rule (Filter' _ input condition _ subs) = true
-has_rule (Project' _ input items _ subs) = true
-has_rule (Join' kind _ left _ right condition _ subs) = no_subs subs
-has_rule (Apply' kind _ left _ right) = false
-has_rule (Union' all _ left _ right) = true
-has_rule (Intersect' all _ left _ right) = true
-has_rule (Except' all _ left _ right) = true
-has_rule (Distinct' _ input) = true
-has_rule (Aggregate' _ input groups aggregates) = true
-has_rule (Limit' _ input keys count) = true
-has_rule (Prov' _ input) = true
-
--- each sublink that is reached from here without passing a source has sources over tables alone, and each node that is reached
--- has a rule
-abbrev mutual
-  pub traceable : Query → Bool
-  traceable (Table id kinds) = true
-  traceable Single = true
-  traceable (BaseOf input places label) = true
-  traceable (FilterOf input condition _ subs) = traceable input && subs_traceable subs
-  traceable (ProjectOf input items _ subs) = traceable input && subs_traceable subs
-  traceable (JoinOf kind left right condition _ subs) = (traceable left && traceable right) && no_subs subs
-  traceable (ApplyOf kind left right) = false
-  traceable (UnionOf all left right) = traceable left && traceable right
-  traceable (IntersectOf all left right) = traceable left && traceable right
-  traceable (ExceptOf all left right) = traceable left && traceable right
-  traceable (DistinctOf input) = traceable input
-  traceable (AggregateOf input groups aggregates) = traceable input
-  traceable (LimitOf input keys count) = traceable input
-  traceable (ProvOf input) = traceable input
-
-  pub subs_traceable : {m : _} → Row_of-Sublink m → Bool
-  subs_traceable end_of-Sublink = true
-  subs_traceable (more_of-Sublink kind tested query subs) = (over_tables query && traceable query) && subs_traceable subs
-
--- this holds at each PROVENANCE of the query, those in sublinks included
-abbrev mutual
-  pub is_scoped : Query → Bool
-  is_scoped (Table id kinds) = true
-  is_scoped Single = true
-  is_scoped (BaseOf input places label) = is_scoped input
-  is_scoped (FilterOf input condition _ subs) = is_scoped input && subs_scoped subs
-  is_scoped (ProjectOf input items _ subs) = is_scoped input && subs_scoped subs
-  is_scoped (JoinOf kind left right condition _ subs) = (is_scoped left && is_scoped right) && subs_scoped subs
-  is_scoped (ApplyOf kind left right) = is_scoped left && is_scoped right
-  is_scoped (UnionOf all left right) = is_scoped left && is_scoped right
-  is_scoped (IntersectOf all left right) = is_scoped left && is_scoped right
-  is_scoped (ExceptOf all left right) = is_scoped left && is_scoped right
-  is_scoped (DistinctOf input) = is_scoped input
-  is_scoped (AggregateOf input groups aggregates) = is_scoped input
-  is_scoped (LimitOf input keys count) = is_scoped input
-  is_scoped (ProvOf input) = traceable input && is_scoped input
-
-  pub subs_scoped : {m : _} → Row_of-Sublink m → Bool
-  subs_scoped end_of-Sublink = true
-  subs_scoped (more_of-Sublink kind tested query subs) = is_scoped query && subs_scoped subs

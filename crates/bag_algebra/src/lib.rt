@@ -19,8 +19,8 @@ pub use laws::what_fits_a_query_fits_what_reads_its_tables;
 pub use measures::{
     all_fault_free, exact_width, expressions_have_one_kind, fault_free,
     fault_free_queries_meet_no_fault, faultless, faultless_expressions_meet_no_fault, height,
-    is_plain, is_scoped, is_table, items_faultless, more_sublinks_change_nothing, over_tables,
-    size, traceable, well_formed_queries_read_their_outer_rows_alone, width,
+    is_plain, is_table, items_faultless, more_sublinks_change_nothing, over_tables, size,
+    well_formed_queries_read_their_outer_rows_alone, width,
 };
 pub use place::Place;
 pub use query::{AggFn, Aggr, Answer, JoinKind, Label, Query, SubKind, Sublink};

@@ -1,4 +1,4 @@
-//! How large a query is, how many columns it has, and the tests of queries: plain, scoped, free of faults.
+//! How large a query is, how many columns it has, and the tests of queries: plain, over tables, free of faults.
 
 mod faults;
 mod kinds;
@@ -13,5 +13,5 @@ pub use laws::{
     faultless_expressions_meet_no_fault, more_sublinks_change_nothing,
     well_formed_queries_read_their_outer_rows_alone,
 };
-pub use scopes::{is_plain, is_scoped, is_table, over_tables, traceable};
+pub use scopes::{is_plain, is_table, over_tables};
 pub use sizes::{height, size};

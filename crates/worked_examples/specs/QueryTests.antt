@@ -8,7 +8,7 @@ use Rattle.bag_algebra.specs.Kinds.{width_of}
 use Rattle.bag_algebra.specs.Measures.{height_of, size_of}
 use Rattle.bag_algebra.specs.built.Patterns.{ChainOf, BaseOf, FilterOf, ProjectOf, ApplyOf, UnionOf, DistinctOf, AggregateOf, ProvOf}
 use Rattle.bag_algebra.specs.Rewriting.{is_plain}
-use Rattle.bag_algebra.specs.Scoped.{is_scoped}
+use Rattle.bag_algebra.specs.Scoped.{over_tables}
 use Rattle.bag_algebra.specs.declared.expr.Expr.{more_of-ChainStep, end_of-ChainStep}
 use Rattle.bag_algebra.specs.declared.expr.Expr.TheVariants.{Col, Sub}
 use Rattle.bag_algebra.specs.declared.query.AggFn.{AggFn}
@@ -97,7 +97,7 @@ sum-may-fault = refl
 chain-may-fault : fault_free (ProjectOf table (record { expr = ChainOf (Col 0 0) (tt ∷ []) (more_of-ChainStep Add (Col 0 0) end_of-ChainStep); kind = kind.Integer } ∷ []) [] end_of-Sublink) ≡ false
 chain-may-fault = refl
 
--- ---- PROVENANCE and its scope
+-- ---- PROVENANCE, and sources over tables
 
 plain-sublink : is_plain (asking Exists (reading 1)) ≡ true
 plain-sublink = refl
@@ -105,14 +105,11 @@ plain-sublink = refl
 provenance-in-sublink : is_plain (asking Exists (source (ProvOf table))) ≡ false
 provenance-in-sublink = refl
 
-sublink-over-table : is_scoped (ProvOf (asking Exists (source table))) ≡ true
-sublink-over-table = refl
+source-of-a-table : over_tables (asking Exists (source table)) ≡ true
+source-of-a-table = refl
 
-sublink-over-query : is_scoped (ProvOf (asking Exists (source (DistinctOf table)))) ≡ false
-sublink-over-query = refl
+source-of-a-query : over_tables (asking Exists (source (DistinctOf table))) ≡ false
+source-of-a-query = refl
 
-behind-a-source : is_scoped (ProvOf (source (asking Exists (source (DistinctOf table))))) ≡ true
-behind-a-source = refl
-
-without-provenance : is_scoped (asking Exists (source (DistinctOf table))) ≡ true
-without-provenance = refl
+below-provenance : over_tables (asking Exists (ProvOf (source (DistinctOf table)))) ≡ true
+below-provenance = refl

@@ -1,10 +1,10 @@
--- Whether a query is plain and scoped, on what the constructors of code make, in words on plain lists of children.
+-- Whether a query is plain, and whether its sources are over tables, on what the constructors of code make, in words on plain lists of children.
 use Rattle.std.specs.Prelude.{◌≡◌, ℕ, Bool, true, false, ◌&&◌, List, [], ◌∷◌}
 use Rattle.std.proofs.Common.{refl, ap, ◌∙◌}
 use Rattle.perm_values.specs.declared.key.Key.{Key}
 use Rattle.bag_algebra.specs.built.Openings.{row_of_subs, Base-is, Filter-is, Project_with-is, Join-is, Apply-is, Union-is, Intersect-is, Except-is, Distinct-is, Aggregate-is, Limit-is, Prov-is}
 use Rattle.bag_algebra.specs.Rewriting.{is_plain, subs_plain}
-use Rattle.bag_algebra.specs.Scoped.{is_table, over_tables, subs_over_tables, no_subs, has_rule, traceable, subs_traceable, is_scoped, subs_scoped}
+use Rattle.bag_algebra.specs.Scoped.{is_table, over_tables, subs_over_tables}
 use Rattle.bag_algebra.specs.declared.expr.Expr.{Expr}
 use Rattle.bag_algebra.specs.declared.expr.Item.{Item}
 use Rattle.bag_algebra.specs.declared.query.Aggr.{Aggr}
@@ -34,36 +34,6 @@ pub subs_over_tables-row_of_subs : (subs : List Sublink) → subs_over_tables (r
 unfolding shape-the_row-Sublink-1 hidden-the_row-Sublink-1 package.denote.Hole.Carrier.hidden
 subs_over_tables-row_of_subs [] = refl
 subs_over_tables-row_of_subs (sub ∷ subs) = ap (λ b. over_tables sub.query && b) (subs_over_tables-row_of_subs subs)
-
--- and so have the sublinks that are reached in them
-abbrev pub all_traceable : List Sublink → Bool
-all_traceable [] = true
-all_traceable (sub ∷ subs) = (over_tables sub.query && traceable sub.query) && all_traceable subs
-
-pub subs_traceable-row_of_subs : (subs : List Sublink) → subs_traceable (row_of_subs subs) ≡ all_traceable subs
-unfolding shape-the_row-Sublink-1 hidden-the_row-Sublink-1 package.denote.Hole.Carrier.hidden
-subs_traceable-row_of_subs [] = refl
-subs_traceable-row_of_subs (sub ∷ subs) = ap (λ b. (over_tables sub.query && traceable sub.query) && b) (subs_traceable-row_of_subs subs)
-
--- there is none of them
-abbrev pub without_subs : List Sublink → Bool
-without_subs [] = true
-without_subs (sub ∷ subs) = false
-
-pub no_subs-row_of_subs : (subs : List Sublink) → no_subs (row_of_subs subs) ≡ without_subs subs
-unfolding shape-the_row-Sublink-1 hidden-the_row-Sublink-1 package.denote.Hole.Carrier.hidden
-no_subs-row_of_subs [] = refl
-no_subs-row_of_subs (sub ∷ subs) = refl
-
--- the queries of all sublinks are scoped
-abbrev pub all_scoped : List Sublink → Bool
-all_scoped [] = true
-all_scoped (sub ∷ subs) = is_scoped sub.query && all_scoped subs
-
-pub subs_scoped-row_of_subs : (subs : List Sublink) → subs_scoped (row_of_subs subs) ≡ all_scoped subs
-unfolding shape-the_row-Sublink-1 hidden-the_row-Sublink-1 package.denote.Hole.Carrier.hidden
-subs_scoped-row_of_subs [] = refl
-subs_scoped-row_of_subs (sub ∷ subs) = ap (λ b. is_scoped sub.query && b) (subs_scoped-row_of_subs subs)
 
 -- ---- plain queries
 
@@ -140,82 +110,3 @@ over_tables-Limit input keys count = ap over_tables (Limit-is input keys count)
 
 pub over_tables-Prov : (input : Query) → over_tables (Prov input) ≡ true
 over_tables-Prov input = ap over_tables (Prov-is input)
-
--- ---- what is reached without passing a source
-
-pub traceable-Base : (input : Query) (places : List ℕ) (label : Label) → traceable (Base input places label) ≡ true
-traceable-Base input places label = ap traceable (Base-is input places label)
-
-pub traceable-Filter : (input : Query) (condition : Expr) (subs : List Sublink) → traceable (Filter input condition subs) ≡ (traceable input && all_traceable subs)
-traceable-Filter input condition subs = ap traceable (Filter-is input condition subs) ∙ ap (λ b. traceable input && b) (subs_traceable-row_of_subs subs)
-
-pub traceable-Project : (input : Query) (items : List Item) (subs : List Sublink) → traceable (Project input items subs) ≡ (traceable input && all_traceable subs)
-traceable-Project input items subs = ap traceable (Project_with-is input items subs) ∙ ap (λ b. traceable input && b) (subs_traceable-row_of_subs subs)
-
-pub traceable-Join : (kind : JoinKind) (left right : Query) (condition : Expr) (subs : List Sublink) → traceable (Join kind left right condition subs) ≡ ((traceable left && traceable right) && without_subs subs)
-traceable-Join kind left right condition subs = ap traceable (Join-is kind left right condition subs) ∙ ap (λ b. (traceable left && traceable right) && b) (no_subs-row_of_subs subs)
-
-pub has_rule-Join : (kind : JoinKind) (left right : Query) (condition : Expr) (subs : List Sublink) → has_rule (Join kind left right condition subs) ≡ without_subs subs
-has_rule-Join kind left right condition subs = ap has_rule (Join-is kind left right condition subs) ∙ no_subs-row_of_subs subs
-
-pub traceable-Apply : (kind : JoinKind) (left right : Query) → traceable (Apply kind left right) ≡ false
-traceable-Apply kind left right = ap traceable (Apply-is kind left right)
-
-pub traceable-Union : (all : Bool) (left right : Query) → traceable (Union all left right) ≡ (traceable left && traceable right)
-traceable-Union all left right = ap traceable (Union-is all left right)
-
-pub traceable-Intersect : (all : Bool) (left right : Query) → traceable (Intersect all left right) ≡ (traceable left && traceable right)
-traceable-Intersect all left right = ap traceable (Intersect-is all left right)
-
-pub traceable-Except : (all : Bool) (left right : Query) → traceable (Except all left right) ≡ (traceable left && traceable right)
-traceable-Except all left right = ap traceable (Except-is all left right)
-
-pub traceable-Distinct : (input : Query) → traceable (Distinct input) ≡ traceable input
-traceable-Distinct input = ap traceable (Distinct-is input)
-
-pub traceable-Aggregate : (input : Query) (groups : List ℕ) (aggregates : List Aggr) → traceable (Aggregate input groups aggregates) ≡ traceable input
-traceable-Aggregate input groups aggregates = ap traceable (Aggregate-is input groups aggregates)
-
-pub traceable-Limit : (input : Query) (keys : List Key) (count : ℕ) → traceable (Limit input keys count) ≡ traceable input
-traceable-Limit input keys count = ap traceable (Limit-is input keys count)
-
-pub traceable-Prov : (input : Query) → traceable (Prov input) ≡ traceable input
-traceable-Prov input = ap traceable (Prov-is input)
-
--- ---- scoped queries
-
-pub is_scoped-Base : (input : Query) (places : List ℕ) (label : Label) → is_scoped (Base input places label) ≡ is_scoped input
-is_scoped-Base input places label = ap is_scoped (Base-is input places label)
-
-pub is_scoped-Filter : (input : Query) (condition : Expr) (subs : List Sublink) → is_scoped (Filter input condition subs) ≡ (is_scoped input && all_scoped subs)
-is_scoped-Filter input condition subs = ap is_scoped (Filter-is input condition subs) ∙ ap (λ b. is_scoped input && b) (subs_scoped-row_of_subs subs)
-
-pub is_scoped-Project : (input : Query) (items : List Item) (subs : List Sublink) → is_scoped (Project input items subs) ≡ (is_scoped input && all_scoped subs)
-is_scoped-Project input items subs = ap is_scoped (Project_with-is input items subs) ∙ ap (λ b. is_scoped input && b) (subs_scoped-row_of_subs subs)
-
-pub is_scoped-Join : (kind : JoinKind) (left right : Query) (condition : Expr) (subs : List Sublink) → is_scoped (Join kind left right condition subs) ≡ ((is_scoped left && is_scoped right) && all_scoped subs)
-is_scoped-Join kind left right condition subs = ap is_scoped (Join-is kind left right condition subs) ∙ ap (λ b. (is_scoped left && is_scoped right) && b) (subs_scoped-row_of_subs subs)
-
-pub is_scoped-Apply : (kind : JoinKind) (left right : Query) → is_scoped (Apply kind left right) ≡ (is_scoped left && is_scoped right)
-is_scoped-Apply kind left right = ap is_scoped (Apply-is kind left right)
-
-pub is_scoped-Union : (all : Bool) (left right : Query) → is_scoped (Union all left right) ≡ (is_scoped left && is_scoped right)
-is_scoped-Union all left right = ap is_scoped (Union-is all left right)
-
-pub is_scoped-Intersect : (all : Bool) (left right : Query) → is_scoped (Intersect all left right) ≡ (is_scoped left && is_scoped right)
-is_scoped-Intersect all left right = ap is_scoped (Intersect-is all left right)
-
-pub is_scoped-Except : (all : Bool) (left right : Query) → is_scoped (Except all left right) ≡ (is_scoped left && is_scoped right)
-is_scoped-Except all left right = ap is_scoped (Except-is all left right)
-
-pub is_scoped-Distinct : (input : Query) → is_scoped (Distinct input) ≡ is_scoped input
-is_scoped-Distinct input = ap is_scoped (Distinct-is input)
-
-pub is_scoped-Aggregate : (input : Query) (groups : List ℕ) (aggregates : List Aggr) → is_scoped (Aggregate input groups aggregates) ≡ is_scoped input
-is_scoped-Aggregate input groups aggregates = ap is_scoped (Aggregate-is input groups aggregates)
-
-pub is_scoped-Limit : (input : Query) (keys : List Key) (count : ℕ) → is_scoped (Limit input keys count) ≡ is_scoped input
-is_scoped-Limit input keys count = ap is_scoped (Limit-is input keys count)
-
-pub is_scoped-Prov : (input : Query) → is_scoped (Prov input) ≡ (traceable input && is_scoped input)
-is_scoped-Prov input = ap is_scoped (Prov-is input)

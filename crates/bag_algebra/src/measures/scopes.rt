@@ -1,12 +1,12 @@
-//! Where PROVENANCE stands in a query, and what stands below it.
+//! Whether PROVENANCE stands in a query, and whether its sources are over tables.
 #![tactic(auto, using(crate::proofs::Smaller::smaller))]
 
 ghost use Rattle.std.specs.Prelude.{◌≡◌};
 ghost use Rattle.std.specs.List.{list_all};
-ghost use Rattle.bag_algebra.specs.built.Scopes.{all_plain, all_over_tables, all_traceable, all_scoped};
+ghost use Rattle.bag_algebra.specs.built.Scopes.{all_plain, all_over_tables};
 ghost use Rattle.bag_algebra.specs.Inputs.{given};
 ghost use Rattle.bag_algebra.specs.Rewriting.{is_plain};
-ghost use Rattle.bag_algebra.specs.Scoped.{has_rule, is_table, over_tables, traceable, is_scoped};
+ghost use Rattle.bag_algebra.specs.Scoped.{is_table, over_tables};
 
 use crate::children::Inputs;
 use crate::query::{Query, Sublink};
@@ -40,102 +40,6 @@ fn all_plain(subs: &[Sublink]) -> bool
 {
     for sub in subs {
         if !is_plain(&sub.query) {
-            return false;
-        }
-    }
-    true
-}
-
-/// Whether, for each PROVENANCE in the query, each sublink that is reached from it without passing a source has only
-/// sources whose input is a table. It takes no memory.
-#[cycle(is_scoped)]
-pub fn is_scoped(query: &Query) -> bool
-    ensures { result ≡ is_scoped query.now }
-{
-    match query {
-        Query::Prov { input } => traceable(input.get()) && is_scoped(input.get()),
-        _ => inputs_scoped(query.inputs()) && all_scoped(query.sublinks()),
-    }
-}
-
-#[cycle(is_scoped)]
-fn inputs_scoped(inputs: Inputs<'_>) -> bool
-    ensures { result ≡ list_all is_scoped (given inputs.entry) }
-{
-    match inputs {
-        Inputs::Zero => true,
-        Inputs::One(input) => is_scoped(input),
-        Inputs::Two(left, right) => is_scoped(left) && is_scoped(right),
-    }
-}
-
-/// Whether the queries of all sublinks are scoped.
-#[cycle(is_scoped)]
-fn all_scoped(subs: &[Sublink]) -> bool
-    ensures { result ≡ all_scoped subs.now }
-{
-    for sub in subs {
-        if !is_scoped(&sub.query) {
-            return false;
-        }
-    }
-    true
-}
-
-/// Whether each sublink that is reached from here without passing a source has only sources whose input is a table, and
-/// each node that is reached has a rule. It takes no memory.
-#[cycle(traceable)]
-pub fn traceable(query: &Query) -> bool
-    ensures { result ≡ traceable query.now }
-{
-    match query {
-        Query::Base { .. } => true,
-        _ => {
-            inputs_traceable(query.inputs()) && has_rule(query) && all_traceable(query.sublinks())
-        }
-    }
-}
-
-/// Whether the topmost node has a rule in the scope of PROVENANCE: it is no dependent join, and no join with sublinks.
-fn has_rule(query: &Query) -> bool
-    ensures { result ≡ has_rule query.now }
-{
-    match query {
-        Query::Table { .. } => true,
-        Query::Single => true,
-        Query::Base { .. } => true,
-        Query::Filter { .. } => true,
-        Query::Project { .. } => true,
-        Query::Join { subs, .. } => subs.is_empty(),
-        Query::Apply { .. } => false,
-        Query::Union { .. } => true,
-        Query::Intersect { .. } => true,
-        Query::Except { .. } => true,
-        Query::Distinct { .. } => true,
-        Query::Aggregate { .. } => true,
-        Query::Limit { .. } => true,
-        Query::Prov { .. } => true,
-    }
-}
-
-#[cycle(traceable)]
-fn inputs_traceable(inputs: Inputs<'_>) -> bool
-    ensures { result ≡ list_all traceable (given inputs.entry) }
-{
-    match inputs {
-        Inputs::Zero => true,
-        Inputs::One(input) => traceable(input),
-        Inputs::Two(left, right) => traceable(left) && traceable(right),
-    }
-}
-
-/// Whether these sublinks and those that are reached in them have only sources whose input is a table.
-#[cycle(traceable)]
-fn all_traceable(subs: &[Sublink]) -> bool
-    ensures { result ≡ all_traceable subs.now }
-{
-    for sub in subs {
-        if !over_tables(&sub.query) || !traceable(&sub.query) {
             return false;
         }
     }
