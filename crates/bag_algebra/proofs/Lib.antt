@@ -15,6 +15,7 @@ pub mod Rest
 pub mod SetCounts
 pub mod Smaller
 pub mod SortedBags
+pub mod Subs
 pub mod TablesRead
 pub mod TruthValues
 pub mod Truths

@@ -42,3 +42,8 @@ abbrev mutual
   pub subs_over_tables : {m : _} → Row_of-Sublink m → Bool
   subs_over_tables end_of-Sublink = true
   subs_over_tables (more_of-Sublink kind tested query subs) = over_tables query && subs_over_tables subs
+
+-- there is no sublink
+abbrev pub no_subs : {m : _} → Row_of-Sublink m → Bool
+no_subs end_of-Sublink = true
+no_subs (more_of-Sublink kind tested query subs) = false

@@ -4,7 +4,7 @@ use Rattle.std.proofs.Common.{refl, ap, ◌∙◌}
 use Rattle.perm_values.specs.declared.key.Key.{Key}
 use Rattle.bag_algebra.specs.built.Openings.{row_of_subs, Base-is, Filter-is, Project_with-is, Join-is, Apply-is, Union-is, Intersect-is, Except-is, Distinct-is, Aggregate-is, Limit-is, Prov-is}
 use Rattle.bag_algebra.specs.Rewriting.{is_plain, subs_plain}
-use Rattle.bag_algebra.specs.Scoped.{is_table, over_tables, subs_over_tables}
+use Rattle.bag_algebra.specs.Scoped.{is_table, over_tables, subs_over_tables, no_subs}
 use Rattle.bag_algebra.specs.declared.expr.Expr.{Expr}
 use Rattle.bag_algebra.specs.declared.expr.Item.{Item}
 use Rattle.bag_algebra.specs.declared.query.Aggr.{Aggr}
@@ -34,6 +34,16 @@ pub subs_over_tables-row_of_subs : (subs : List Sublink) → subs_over_tables (r
 unfolding shape-the_row-Sublink-1 hidden-the_row-Sublink-1 package.denote.Hole.Carrier.hidden
 subs_over_tables-row_of_subs [] = refl
 subs_over_tables-row_of_subs (sub ∷ subs) = ap (λ b. over_tables sub.query && b) (subs_over_tables-row_of_subs subs)
+
+-- there is none of them
+abbrev pub without_subs : List Sublink → Bool
+without_subs [] = true
+without_subs (sub ∷ subs) = false
+
+pub no_subs-row_of_subs : (subs : List Sublink) → no_subs (row_of_subs subs) ≡ without_subs subs
+unfolding shape-the_row-Sublink-1 hidden-the_row-Sublink-1 package.denote.Hole.Carrier.hidden
+no_subs-row_of_subs [] = refl
+no_subs-row_of_subs (sub ∷ subs) = refl
 
 -- ---- plain queries
 
