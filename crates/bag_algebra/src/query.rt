@@ -56,7 +56,6 @@ pub enum Label {
 }
 
 /// A query over bags.
-#[derive(Drop)]
 #[cycle(query)]
 pub enum Query {
     Table {
@@ -130,4 +129,90 @@ pub struct Answer {
     pub query: Query,
     pub names: List<Chars>,
     pub keys: List<Key>,
+}
+
+impl Drop for Query {
+    #[cycle(query)]
+    fn drop(self) {
+        match self {
+            Query::Table { id: _, kinds: _ } => {}
+            Query::Single => {}
+            Query::Base {
+                input,
+                places: _,
+                label: _,
+            } => drop(input),
+            Query::Filter {
+                input,
+                condition: _,
+                subs,
+            } => {
+                drop(input);
+                drop(subs);
+            }
+            Query::Project {
+                input,
+                items: _,
+                subs,
+            } => {
+                drop(input);
+                drop(subs);
+            }
+            Query::Join {
+                kind: _,
+                left,
+                right,
+                condition: _,
+                subs,
+            } => {
+                drop(left);
+                drop(right);
+                drop(subs);
+            }
+            Query::Apply {
+                kind: _,
+                left,
+                right,
+            } => {
+                drop(left);
+                drop(right);
+            }
+            Query::Union {
+                all: _,
+                left,
+                right,
+            } => {
+                drop(left);
+                drop(right);
+            }
+            Query::Intersect {
+                all: _,
+                left,
+                right,
+            } => {
+                drop(left);
+                drop(right);
+            }
+            Query::Except {
+                all: _,
+                left,
+                right,
+            } => {
+                drop(left);
+                drop(right);
+            }
+            Query::Distinct { input } => drop(input),
+            Query::Aggregate {
+                input,
+                groups: _,
+                aggregates: _,
+            } => drop(input),
+            Query::Limit {
+                input,
+                keys: _,
+                count: _,
+            } => drop(input),
+            Query::Prov { input } => drop(input),
+        }
+    }
 }
