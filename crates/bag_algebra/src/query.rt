@@ -1,3 +1,6 @@
+ghost use Rattle.std.specs.Prelude.{◌<◌, IfSome};
+ghost use Rattle.bag_algebra.specs.Measures.{size_of};
+
 use crate::expr::{Expr, Item};
 use null_logic::Compare;
 use perm_values::{Boxed, Chars, Key, Kind, List};
@@ -213,6 +216,72 @@ impl Drop for Query {
                 count: _,
             } => drop(input),
             Query::Prov { input } => drop(input),
+        }
+    }
+}
+
+impl Query {
+    /// The first input of the topmost node, if it has one. All else of it is let go. It takes no memory.
+    pub fn into_first_input(self) -> Option<Query>
+        ensures { IfSome result (λ input. size_of input < size_of self) }
+    {
+        match self {
+            Query::Table { .. } => None,
+            Query::Single => None,
+            Query::Base {
+                input,
+                places: _places,
+                label: _label,
+            } => Some(input.into_inner()),
+            Query::Filter {
+                input,
+                condition: _condition,
+                subs: _subs,
+            } => Some(input.into_inner()),
+            Query::Project {
+                input,
+                items: _items,
+                subs: _subs,
+            } => Some(input.into_inner()),
+            Query::Join {
+                kind: _kind,
+                left,
+                right: _right,
+                condition: _condition,
+                subs: _subs,
+            } => Some(left.into_inner()),
+            Query::Apply {
+                kind: _kind,
+                left,
+                right: _right,
+            } => Some(left.into_inner()),
+            Query::Union {
+                all: _all,
+                left,
+                right: _right,
+            } => Some(left.into_inner()),
+            Query::Intersect {
+                all: _all,
+                left,
+                right: _right,
+            } => Some(left.into_inner()),
+            Query::Except {
+                all: _all,
+                left,
+                right: _right,
+            } => Some(left.into_inner()),
+            Query::Distinct { input } => Some(input.into_inner()),
+            Query::Aggregate {
+                input,
+                groups: _groups,
+                aggregates: _aggregates,
+            } => Some(input.into_inner()),
+            Query::Limit {
+                input,
+                keys: _keys,
+                count: _count,
+            } => Some(input.into_inner()),
+            Query::Prov { input } => Some(input.into_inner()),
         }
     }
 }
