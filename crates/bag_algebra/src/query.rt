@@ -1,5 +1,11 @@
-ghost use Rattle.std.specs.Prelude.{◌<◌, IfSome};
+ghost use Rattle.std.specs.Prelude.{◌≡◌, ◌<◌, List as ItemsOf, IfOk, IfErr, IfSome};
 ghost use Rattle.bag_algebra.specs.Measures.{size_of};
+ghost use Rattle.bag_algebra.specs.declared.expr.Expr.{Expr};
+ghost use Rattle.bag_algebra.specs.declared.expr.Item.{Item};
+ghost use Rattle.bag_algebra.specs.declared.query.JoinKind.{JoinKind};
+ghost use Rattle.bag_algebra.specs.declared.query.Query.TheVariants.{Filter, Project, Join};
+ghost use Rattle.bag_algebra.specs.declared.query.Query.{Query};
+ghost use Rattle.bag_algebra.specs.declared.query.Sublink.{Sublink};
 
 use crate::expr::{Expr, Item};
 use null_logic::Compare;
@@ -132,6 +138,32 @@ pub struct Answer {
     pub query: Query,
     pub names: List<Chars>,
     pub keys: List<Key>,
+}
+
+/// A projection's input, items and sublinks.
+#[derive(Drop)]
+pub struct Projection {
+    pub input: Query,
+    pub items: List<Item>,
+    pub subs: List<Sublink>,
+}
+
+/// A filter's input, condition and sublinks.
+#[derive(Drop)]
+pub struct Selection {
+    pub input: Query,
+    pub condition: Expr,
+    pub subs: List<Sublink>,
+}
+
+/// A join's sides, its kind, its condition and its sublinks.
+#[derive(Drop)]
+pub struct JoinParts {
+    pub kind: JoinKind,
+    pub left: Query,
+    pub right: Query,
+    pub condition: Expr,
+    pub subs: List<Sublink>,
 }
 
 impl Drop for Query {
@@ -282,6 +314,70 @@ impl Query {
                 count: _count,
             } => Some(input.into_inner()),
             Query::Prov { input } => Some(input.into_inner()),
+        }
+    }
+
+    /// The parts of a projection; a query that is none comes back. It takes no memory.
+    pub fn into_projection(self) -> Result<Projection, Query>
+        ensures parts { IfOk result (λ parts. self ≡ Project parts.input parts.items parts.subs) }
+        ensures same { IfErr result (λ query. query ≡ self) }
+        ensures other { IfErr result (λ _. (input : Query) (items : ItemsOf Item) (subs : ItemsOf Sublink) →
+            self ≡ Project input items subs → ⊥) }
+    {
+        match self {
+            Query::Project { input, items, subs } => Ok(Projection {
+                input: input.into_inner(),
+                items,
+                subs,
+            }),
+            other => Err(other),
+        }
+    }
+
+    /// The parts of a filter; a query that is none comes back. It takes no memory.
+    pub fn into_selection(self) -> Result<Selection, Query>
+        ensures parts { IfOk result (λ parts. self ≡ Filter parts.input parts.condition parts.subs) }
+        ensures same { IfErr result (λ query. query ≡ self) }
+        ensures other { IfErr result (λ _. (input : Query) (condition : Expr) (subs : ItemsOf Sublink) →
+            self ≡ Filter input condition subs → ⊥) }
+    {
+        match self {
+            Query::Filter {
+                input,
+                condition,
+                subs,
+            } => Ok(Selection {
+                input: input.into_inner(),
+                condition,
+                subs,
+            }),
+            other => Err(other),
+        }
+    }
+
+    /// The parts of a join; a query that is none comes back. It takes no memory.
+    pub fn into_join(self) -> Result<JoinParts, Query>
+        ensures parts { IfOk result (λ parts.
+            self ≡ Join parts.kind parts.left parts.right parts.condition parts.subs) }
+        ensures same { IfErr result (λ query. query ≡ self) }
+        ensures other { IfErr result (λ _. (kind : JoinKind) (left right : Query) (condition : Expr)
+            (subs : ItemsOf Sublink) → self ≡ Join kind left right condition subs → ⊥) }
+    {
+        match self {
+            Query::Join {
+                kind,
+                left,
+                right,
+                condition,
+                subs,
+            } => Ok(JoinParts {
+                kind,
+                left: left.into_inner(),
+                right: right.into_inner(),
+                condition,
+                subs,
+            }),
+            other => Err(other),
         }
     }
 }
