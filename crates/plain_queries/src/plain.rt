@@ -67,7 +67,8 @@ fn is_same(query: &Query, lowered: &Result<Query, NoMemory>) -> bool {
 /// What stands for whatever the query stands for, and is simple. It fails where the query failed, and for want of memory.
 fn folded(alloc: Global, query: Result<Query, NoMemory>) -> Result<Query, NoMemory>
     requires { IfOk query (λ plain. is_plain plain ≡ true) }
-    ensures stands { (q : Query) → IfOk query (λ plain. Stands q plain) → IfOk result (λ plain. Stands q plain) }
+    ensures stands { (q : Query) → IfOk query (λ plain. Stands q plain)
+        → IfOk result (λ plain. Stands q plain) }
     ensures simple { IfOk result (λ plain. is_simple plain ≡ true) }
 {
     let plain = query?;
