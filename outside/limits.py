@@ -60,6 +60,7 @@ CHAINS = [
     ("joins with one name", chain(TABLE, "SELECT 1 FROM r", " CROSS JOIN r"), 4),
     ("comma items", chain(TABLE, "SELECT 1 FROM r x", ",r y%d"), 4),
     ("comma items of PROVENANCE", chain(TABLE, "SELECT PROVENANCE 1 FROM r x", ",r y%d"), 4),
+    ("joins on names", chain(TABLE, "SELECT 1 FROM r x", " JOIN r y%d ON y%d.a=x.a"), 4),
     *[(f"{kind.lower()} lateral", chain(TABLE, "SELECT 1 FROM r x", f" {kind} JOIN LATERAL(SELECT 1)y%d{back}"), 4)
       for kind, back in (("CROSS", ""), ("LEFT", " ON TRUE"))],
     ("comma subqueries", chain("", "SELECT 1 FROM (SELECT 1) x", ",(SELECT 1) y%d"), 4),
@@ -97,6 +98,8 @@ CHAINS = [
       for word in ("UNION ", "EXCEPT ")],
     ("impact on comma items", chain(TABLE, "IMPACT DELETE FROM r OF SELECT 1 FROM r x", ",r y%d"), 4),
     ("impact on joins", chain(TABLE, "IMPACT DELETE FROM r OF SELECT 1 FROM r x", " LEFT JOIN r y%d ON TRUE"), 4),
+    ("wide subqueries in FROM", lambda room: "CREATE VIEW v AS " + levels(room) + ";", 0),
+    ("PROVENANCE in PROVENANCE", lambda room: provenance_of_provenance(12), 0),
     ("sublinks in one condition", chain(TABLE, "SELECT 1 FROM r WHERE TRUE", " AND EXISTS(SELECT 1)"), 4),
 ]
 
@@ -168,6 +171,24 @@ def bounds(only):
         failed += wrong
         print(f"{name:28} {last} are taken with status {taken.status}, one more answers {' '.join(refused.last)}{'  <-- wrong' * wrong}", flush=True)
     return failed
+
+
+def levels(room):
+    """A query in FROM of another, 60 deep, each with as many columns as there is room for, 1,000 at most."""
+    columns = min(1000, room // 60 // len("c100,") - 10)
+    names = ",".join(f"c{number}" for number in range(columns))
+    text = "SELECT " + ",".join(f"1 AS c{number}" for number in range(columns))
+    for _ in range(60):
+        text = f"SELECT {names} FROM ({text}) x"
+    return text
+
+
+def provenance_of_provenance(depth):
+    """PROVENANCE over a grouping of what PROVENANCE answers, so deep: what stands for a level holds the next one twice."""
+    text = "SELECT PROVENANCE COUNT(*) AS n FROM r"
+    for _ in range(depth - 1):
+        text = f"SELECT PROVENANCE COUNT(*) AS n FROM ({text}) x"
+    return TABLE + text + ";"
 
 
 def over_views(room):

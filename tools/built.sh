@@ -1,6 +1,8 @@
 # What ./perm and ./build share: the crates that the program stands on, and whether it is built of the sources that stand
 # here. Sourced with the repository's folder in $top.
 program=$top/crates/perm_cli/out/perm_cli
+# The sum of the logic that the proofs are written in; any kit of it serves, whatever its number.
+logic=dac8208d650f15bf
 
 # crates_below NAME: the crate behind those of this repository that it uses
 crates_below() {

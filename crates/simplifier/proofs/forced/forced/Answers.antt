@@ -11,15 +11,15 @@ use Rattle.rewrite_core.proofs.Itself.{stands-itself, stands-onward}
 use Rattle.simplifier.proofs.BaredNodes.{themselves}
 use Rattle.simplifier.proofs.forced.forced.Goals as goal
 
-pub returns-in-Ok : goal.returns-in-Ok
-returns-in-Ok c q h =
-    let input = c.in-Project.input in
-    let items = c.in-Project.items in
-    let subs = c.in-Project.subs in
-    let s = opened (λ b. Stands q b) c.args.query _ c.in_ok-other.was h in
-    let plain = sym (is_plain-Project input items subs) ∙ ap is_plain (sym c.in-Project.is) ∙ s.plain in
-    let rows = c.in-Ok.ensures input (subst (Stands input) (sym c.into_inner.ensures) (stands-itself input (left-true (is_plain input) (all_plain subs) plain))) in
+pub returns-in-Ok-joined : goal.returns-in-Ok-joined
+returns-in-Ok-joined c q h =
+    let parts = c.in-Ok.field-0 in
+    let taken = c.in_ok-query.field-0 in
+    let is = sym c.in-Ok.ensures.parts in
+    let s = opened (λ b. Stands q b) c.args.query _ c.in_ok-query.was h in
+    let plain = sym (is_plain-Project parts.input parts.items parts.subs) ∙ ap is_plain is ∙ s.plain in
+    let rows = c.in-Ok-joined.ensures parts.input (stands-itself parts.input (left-true (is_plain parts.input) (all_plain parts.subs) plain)) in
     of_made (λ p. Stands q p) c.project.result _ c.project.ensures
-    (stands-onward q c.in_ok-other.other (Project c.in-Ok.rows items subs) s
-    (subst (λ n. Stands n (Project c.in-Ok.rows items subs)) (sym c.in-Project.is)
-    (stands-Project input c.in-Ok.rows rows items items (items-themselves items) subs subs (themselves subs (right-true (is_plain input) (all_plain subs) plain)))))
+    (stands-onward q taken (Project c.in-Ok-joined.rows parts.items parts.subs) s
+    (subst (λ n. Stands n (Project c.in-Ok-joined.rows parts.items parts.subs)) is
+    (stands-Project parts.input c.in-Ok-joined.rows rows parts.items parts.items (items-themselves parts.items) parts.subs parts.subs (themselves parts.subs (right-true (is_plain parts.input) (all_plain parts.subs) plain)))))

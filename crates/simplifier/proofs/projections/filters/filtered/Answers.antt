@@ -2,11 +2,14 @@ use Rattle.std.proofs.Common.{sym, ◌∙◌}
 use Rattle.simplifier.proofs.projections.Inputs.{filter-input, filter-sublinks}
 use Rattle.simplifier.proofs.projections.filters.filtered.Goals as goal
 
-pub returns-in-Filter : goal.returns-in-Filter
-returns-in-Filter c input condition subs e =
-    let same = sym c.in-Filter.is ∙ e in
-    let rows = c.into_inner.ensures ∙ filter-input c.in-Filter.input input c.in-Filter.condition condition c.in-Filter.subs subs same in
-    λ i. (rows i, filter-sublinks c.in-Filter.input input c.in-Filter.condition condition c.in-Filter.subs subs same i)
+pub returns-in-Ok : goal.returns-in-Ok
+returns-in-Ok c input condition subs e =
+    let parts = c.in-Ok.field-0 in
+    let same = sym c.in-Ok.ensures.parts ∙ e in
+    λ i. (
+      filter-input parts.input input parts.condition condition parts.subs subs same i,
+      filter-sublinks parts.input input parts.condition condition parts.subs subs same i,
+    )
 
-pub returns-in_default : goal.returns-in_default
-returns-in_default c input condition subs e = absurd (c.in_default.not-Filter input condition subs e)
+pub returns : goal.returns
+returns c input condition subs e = absurd (c.in-Err.ensures.other input condition subs e)

@@ -2,12 +2,14 @@ use Rattle.std.proofs.Common.{[], sym, ◌∙◌}
 use Rattle.simplifier.proofs.projections.Inputs.{join-left, join-right}
 use Rattle.simplifier.proofs.projections.joins.joined.Goals as goal
 
-pub returns-in-Join : goal.returns-in-Join
-returns-in-Join c kind left right condition e =
+pub returns-in-Ok : goal.returns-in-Ok
+returns-in-Ok c kind left right condition e =
+    let parts = c.in-Ok.field-0 in
+    let same = sym c.in-Ok.ensures.parts ∙ e in
     λ i. (
-      (c.into_inner.ensures ∙ c.in-Join.left-is ∙ join-left c.in-Join.kind kind c.in-Join.left left c.in-Join.right right c.in-Join.condition condition c.in-Join.subs [] (sym c.in-Join.is ∙ e)) i,
-      (c.into_inner-in-Join.ensures ∙ c.in-Join.right-is ∙ join-right c.in-Join.kind kind c.in-Join.left left c.in-Join.right right c.in-Join.condition condition c.in-Join.subs [] (sym c.in-Join.is ∙ e)) i,
+      join-left parts.kind kind parts.left left parts.right right parts.condition condition parts.subs [] same i,
+      join-right parts.kind kind parts.left left parts.right right parts.condition condition parts.subs [] same i,
     )
 
-pub returns-in_default : goal.returns-in_default
-returns-in_default c kind left right condition e = absurd (c.in_default.not-Join kind left right condition [] e)
+pub returns : goal.returns
+returns c kind left right condition e = absurd (c.in-Err.ensures.other kind left right condition [] e)
