@@ -15,3 +15,11 @@ pub use meaning::{
 };
 pub use run::perm;
 pub use session::Session;
+
+// The types of which these calls speak.
+pub use perm_catalog::Catalog;
+pub use perm_io::{Files, Sink};
+pub use perm_values::{Bytes, Chars, NoMemory};
+pub use sql_tree::Statement;
+pub use statement_meaning::StepRefusal;
+pub use statement_steps::{Ran, Runner};
