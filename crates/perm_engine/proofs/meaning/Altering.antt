@@ -1,5 +1,5 @@
 -- A statement that is accepted and makes a table or a view, drops one, or changes the rows of a table.
-use Rattle.std.proofs.Common.{◌+◌, ◌≡◌, ◌∙◌, ℕ, Bool, true, false, cond, List, [], ◌∷◌, ◌++◌, length, filter, codes, nat_eq, Option, Ok, refl, sym, ap, subst, arith}
+use Rattle.std.proofs.Common.{◌+◌, ◌≡◌, ◌∙◌, ℕ, Bool, true, false, cond, List, [], ◌∷◌, ◌++◌, length, filter, codes, nat_eq, Option, None, Ok, refl, sym, ap, subst, arith}
 use Rattle.std.proofs.lemmas.List.Sums.{sum_by-cons}
 use Rattle.std.specs.List.{count_by}
 use Rattle.perm_values.specs.Numbers.{last_number}
@@ -44,10 +44,9 @@ use Rattle.statement_meaning.specs.laws.Kept.{is_certain, rows_left}
 use Rattle.statement_meaning.specs.Answers.{TakesTurn}
 use Rattle.statement_meaning.specs.Asking.{asks}
 use Rattle.statement_meaning.specs.Ready.{IsReady}
-use Rattle.statement_meaning.specs.Turns.{Turn, Accepted, Refused, Broken, Unfit, add_rows, add_unbroken, copy, counting, drawing, identity_of, insert, on_good, row_value, rows_deleted, with_added}
-use Rattle.statement_meaning.specs.Turns.{delete as deleted}
+use Rattle.statement_meaning.specs.Turns.{Turn, Accepted, Refused, Broken, Unfit, add_rows, add_unbroken, copy, counting, drawing, identity_of, on_good, row_value, rows_deleted, with_added}
 use Rattle.perm_engine.proofs.meaning.HeadlineSteps.{IsDone}
-use Rattle.perm_engine.proofs.meaning.Replacing.{has-added, has-left, new-columns, new-others, new-rows, new-there, rows-named, table-gone, table-others, view-gone, view-there, views-beside, views-left}
+use Rattle.perm_engine.proofs.meaning.Replacing.{has-added, has-left, new-columns, new-nothing, new-others, new-rows, rows-named, table-gone, table-others, view-gone, view-there, views-beside, views-left}
 use Rattle.perm_engine.proofs.meaning.Twins.{limits-of, no-breaks}
 use Rattle.perm_engine.specs.meaning.headline.Changes.{CopiesRows, CreatesTable, CreatesView, DeletesRows, DropsTable, DropsView, HasRowsThen, InsertsRows, rows_gone, rows_of}
 use Rattle.perm_engine.specs.meaning.headline.Words.{asking}
@@ -113,12 +112,12 @@ module _ (Can : List ℕ → Found → Type 0) (c after : Contents) (statement :
       let made : Resolved = r.CreateTable table.text (defined_columns columns) in
       let named : resolved c statement ≡ made = ap (resolved_body c) is in
       let free = ready made named in
-      let left = drawn c statement.at (codes "CREATE TABLE\n") text (with_table c table.text (defined_columns columns) [] _) after (turn made named) in
+      let left = drawn c statement.at (codes "CREATE TABLE\n") text (with_table c table.text (defined_columns columns) [] None) after (turn made named) in
       subst (λ (d : Contents). CreatesTable c d table columns text) (sym left.is) (record {
         free = free;
         columns = new-columns c sound table.text (defined_columns columns) free;
         rows = new-rows c sound table.text (defined_columns columns) free;
-        nothing = record { table = _; named = new-there c sound table.text (defined_columns columns) free; nothing = refl };
+        nothing = new-nothing c sound table.text (defined_columns columns) free;
         others = new-others c sound table.text (defined_columns columns) free;
         views = refl;
         says = left.says;

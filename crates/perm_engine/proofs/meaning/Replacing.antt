@@ -18,6 +18,7 @@ use Rattle.perm_catalog.specs.declared.entries.ViewEntry.{ViewEntry}
 use Rattle.stored_provenance.proofs.HeldRows.{get-put, get-put_apart, get-removed_apart}
 use Rattle.stored_provenance.proofs.Soundness.{free-table, free-view}
 use Rattle.statement_meaning.specs.Turns.{identity_of, with_added}
+use Rattle.statement_meaning.specs.laws.Freshened.{StoresNothing}
 use Rattle.perm_engine.specs.meaning.headline.Changes.{HasRowsThen, KeepsTables, KeepsViews, columns_at, rows_of}
 
 -- ---- rows by name
@@ -70,8 +71,11 @@ module _ (c : Contents) (sound : IsSound c) (name : List ℕ) where
     change-new : (other : List ℕ) → table_named with_new other ≡ cond (pointwise nat_eq name other) (Some made) (table_named c other)
     change-new other = named-last name other made c.tables (free-table (table_named c name) (view_named c name) free)
 
-    pub new-there : table_named with_new name ≡ Some made
+    new-there : table_named with_new name ≡ Some made
     new-there = found-here (Some made) (table_named c name) (table_named with_new name) name name (change-new name) refl
+
+    pub new-nothing : StoresNothing name with_new
+    new-nothing = record { table = made; named = new-there; nothing = refl }
 
     pub new-columns : columns_at with_new name ≡ Some columns
     new-columns = ap (λ (o : Option TableEntry). option_map (λ (e : TableEntry). e.columns) o) new-there

@@ -51,7 +51,7 @@ fresh-only : (c : Contents) (stored : StoredQuery) (changed : Option SourceVersi
     → freshness_told changed ≡ codes "fresh\n" → IsFresh c stored
 fresh-only c stored None is e = is
 fresh-only c stored (Some kept) is e =
-    let byte = first_byte (codes "stale " ++ kept.table ++ codes "\n") (codes "fresh\n") e in absurd (omega (arith, byte))
+    let byte : 115 ≡ 102 = first_byte (codes "stale " ++ kept.table ++ codes "\n") (codes "fresh\n") e in absurd (omega (arith, byte))
 
 module _ (stands : Stands) (c : Contents) (sound : IsSound c) (name : List ℕ) (entry : TableEntry) (named : table_named c name ≡ Some entry) where
   stands-for : (stored : StoredQuery) → entry.stored ≡ Some stored → IsFresh c stored → StandsForQuery c entry
@@ -67,7 +67,7 @@ module _ (stands : Stands) (c : Contents) (sound : IsSound c) (name : List ℕ) 
       }
 
   said-fresh : (o : Option StoredQuery) → entry.stored ≡ o → freshness_text c o ≡ codes "fresh\n" → StandsForQuery c entry
-  said-fresh None nothing e = let byte = first_byte (codes "not stored\n") (codes "fresh\n") e in absurd (omega (arith, byte))
+  said-fresh None nothing e = let byte : 110 ≡ 102 = first_byte (codes "not stored\n") (codes "fresh\n") e in absurd (omega (arith, byte))
   said-fresh (Some stored) stores e = stands-for stored stores (fresh-only c stored (first_changed c stored) refl e)
 
 -- ---- the statement
