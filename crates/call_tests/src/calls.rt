@@ -1,9 +1,6 @@
 //! Calls that take memory and that no run of the program reaches.
-use crate::runs::{file, words_of};
 use bag_algebra::{Env, Query, Tables};
-use perm_engine::{Status, perm};
-use perm_io::{NeverFiles, NeverSink};
-use perm_values::{Bytes, Chars, Copyable, List, NoMemory, Row, Value};
+use perm_values::{Bytes, Chars, Copyable, NoMemory, Row, Value};
 use row_executor::{ExecError, run_plain};
 use std::alloc::Global;
 use std::test::Fail;
@@ -53,27 +50,5 @@ fn calls_without_a_run_succeed(rt: HostRuntime) -> Result<(), Fail> {
     assert_eq!(rt; bytes_copied(alloc, b"xy")?.as_slice(), b"xy".as_slice());
     assert_eq!(rt; env_copied(alloc)?, 1);
     assert!(rt; rows_of_single(alloc) == Ok(1));
-    Ok(())
-}
-
-/// How a run ends over files and an output whose calls never fail, and how many bytes the output took.
-fn never_failing(alloc: Global, script: &[u8]) -> Result<(Status, u64), NoMemory> {
-    let words = words_of(alloc, &["s"])?;
-    let mut held = List::new(alloc);
-    held.push(file(alloc, "s", script)?)?;
-    let mut out = NeverSink::new();
-    let status = perm(
-        alloc,
-        words.as_slice(),
-        &mut NeverFiles::new(held),
-        &mut out,
-    );
-    Ok((status, out.taken()))
-}
-
-#[test]
-fn runs_that_cannot_fail(rt: HostRuntime) -> Result<(), Fail> {
-    let script = b"CREATE TABLE r (a TEXT);";
-    assert_eq!(rt; never_failing(rt.alloc(), script)?, (Status::Done, 13));
     Ok(())
 }

@@ -3,8 +3,11 @@
 ghost use Rattle.std.specs.Prelude.{IfOk, IsTrue};
 ghost use Rattle.bag_algebra.specs.Rewriting.{is_plain};
 
-use crate::moved::{comparison, only_item};
-use bag_algebra::{ChainStep, Expr, Item, Label, Query, SubKind, Sublink, size};
+use crate::trees::{
+    chosen, column_compared, exists, first_column, first_table, only_item, only_sublink, own,
+    second_table,
+};
+use bag_algebra::{ChainStep, Expr, Item, Query, SubKind, Sublink, size};
 use null_logic::{Arith, Compare};
 use perm_values::{Boxed, Kind, List, NoMemory, both};
 use rewrite_driver::eliminate;
@@ -12,38 +15,16 @@ use simplifier::simplify;
 use std::alloc::Global;
 use std::test::Fail;
 
-/// The table as a source of all its columns.
-fn source(alloc: Global, id: u64, kinds: &[Kind]) -> Result<Query, NoMemory> {
-    let (places, kinds) = both(
-        List::range(alloc, 0, kinds.len()),
-        List::copy_of(alloc, kinds),
-    )?;
-    let columns = List::new(alloc);
-    let table = Query::Table { id, kinds };
-    Query::base(alloc, table, places, Label::External { columns })
-}
-
-fn first_column(alloc: Global) -> Result<List<Item>, NoMemory> {
-    let mut items = List::new(alloc);
-    items.push(Item {
-        expr: Expr::Col { level: 0, place: 0 },
-        kind: Kind::Integer,
-    })?;
-    Ok(items)
-}
-
 /// The rows of the first table whose first column equals a row of the second.
-fn chosen(alloc: Global) -> Result<Query, NoMemory> {
-    let among = source(alloc, 2, [Kind::Integer].as_slice());
-    let subs = comparison(alloc, SubKind::Any(Compare::Equal), among);
-    let rows = source(alloc, 1, [Kind::Integer, Kind::Text].as_slice());
-    let (rows, subs) = both(rows, subs)?;
-    Query::filter(alloc, rows, Expr::Sub { number: 0 }, subs)
+fn equal_rows(alloc: Global) -> Result<Query, NoMemory> {
+    let equal = column_compared(SubKind::Any(Compare::Equal), 0, second_table(alloc));
+    let subs = only_sublink(alloc, equal);
+    chosen(alloc, first_table(alloc), Ok(Expr::Sub { number: 0 }), subs)
 }
 
 /// Their first column.
 fn answered(alloc: Global) -> Result<Query, NoMemory> {
-    let (rows, items) = both(chosen(alloc), first_column(alloc))?;
+    let (rows, items) = both(equal_rows(alloc), first_column(alloc))?;
     Query::project(alloc, rows, items, List::new(alloc))
 }
 
@@ -78,10 +59,9 @@ fn few_operators_are_run(rt: HostRuntime) -> Result<(), Fail> {
 
 /// The rows of the second table whose column is NULL.
 fn missing(alloc: Global) -> Result<Query, NoMemory> {
-    let part = Boxed::new(alloc, Expr::Col { level: 0, place: 0 });
-    let rows = source(alloc, 2, [Kind::Integer].as_slice());
-    let (rows, part) = both(rows, part)?;
-    Query::filter(alloc, rows, Expr::IsNull { part }, List::new(alloc))
+    let part = Boxed::new(alloc, own(0))?;
+    let condition = Ok(Expr::IsNull { part });
+    chosen(alloc, second_table(alloc), condition, Ok(List::new(alloc)))
 }
 
 /// EXISTS over these items of them.
@@ -90,20 +70,14 @@ fn some_missing(
     items: Result<List<Item>, NoMemory>,
 ) -> Result<List<Sublink>, NoMemory> {
     let (rows, items) = both(missing(alloc), items)?;
-    let query = Query::project(alloc, rows, items, List::new(alloc))?;
-    let sub = Sublink {
-        kind: SubKind::Exists,
-        tested: None,
-        query,
-    };
-    only_item(alloc, sub)
+    let query = Query::project(alloc, rows, items, List::new(alloc));
+    only_sublink(alloc, exists(query))
 }
 
 /// The rows of the first table where that holds.
 fn where_missing(alloc: Global, items: Result<List<Item>, NoMemory>) -> Result<Query, NoMemory> {
-    let rows = source(alloc, 1, [Kind::Integer, Kind::Text].as_slice());
-    let (rows, subs) = both(rows, some_missing(alloc, items))?;
-    Query::filter(alloc, rows, Expr::Sub { number: 0 }, subs)
+    let subs = some_missing(alloc, items);
+    chosen(alloc, first_table(alloc), Ok(Expr::Sub { number: 0 }), subs)
 }
 
 /// What stands for them.
@@ -129,9 +103,9 @@ fn run_for(alloc: Global, items: Result<List<Item>, NoMemory>) -> Result<u64, No
 fn quotient(alloc: Global) -> Result<List<Item>, NoMemory> {
     let divisor = ChainStep {
         op: Arith::Divide,
-        part: Expr::Col { level: 0, place: 0 },
+        part: own(0),
     };
-    let first = Boxed::new(alloc, Expr::Col { level: 0, place: 0 });
+    let first = Boxed::new(alloc, own(0));
     let (first, steps) = both(first, only_item(alloc, divisor))?;
     let item = Item {
         expr: Expr::Chain { first, steps },

@@ -1,0 +1,171 @@
+//! The rules that put candidates of a cross base beside the rows of a Filter or a Project (`rewrite_sublink`), called as they are, and
+//! what they stand on (`contribution`).
+use crate::answers::{Case, Field, NOT_GREATER};
+use crate::rewritten::{inside_tables, with_rewriting};
+use crate::trees::{
+    all_of, chosen, column_compared, compared, exists, first_column_and_sublink, first_table,
+    negated, only_sublink, outer, own, second_table,
+};
+use bag_algebra::{Expr, Query, SubKind, over_tables};
+use contribution::{cross_base, null_row};
+use null_logic::Compare;
+use perm_values::{Kind, List, NoMemory, both, three};
+use rewrite_sublink::{filter_with, project_with};
+use row_executor::ExecError;
+use std::alloc::Global;
+use std::test::Fail;
+
+/// The rows of the second table that are the outer row of it and the first column of the row around that.
+fn met_by_both(alloc: Global) -> Result<Query, NoMemory> {
+    let nearest = compared(alloc, Compare::Equal, own(0), outer(1, 0));
+    let next = compared(alloc, Compare::Equal, own(0), outer(2, 0));
+    let condition = all_of(alloc, nearest, next);
+    chosen(alloc, second_table(alloc), condition, Ok(List::new(alloc)))
+}
+
+/// The rows of the second table for which there is such a row.
+fn met(alloc: Global) -> Result<Query, NoMemory> {
+    let subs = only_sublink(alloc, exists(met_by_both(alloc)));
+    let condition = Ok(Expr::Sub { number: 0 });
+    chosen(alloc, second_table(alloc), condition, subs)
+}
+
+/// A rewriting of the rows of the first table on which the condition is true, whose sublink is whether there is such a row of the second.
+fn filter_query(alloc: Global, condition: Result<Expr, NoMemory>) -> Result<Query, NoMemory> {
+    let rows = with_rewriting(alloc, first_table(alloc));
+    let inner = inside_tables(alloc, exists(met(alloc)));
+    let (rows, inner, condition) = three(rows, inner, condition)?;
+    let (query, rewriting) = rows;
+    let (subs, standing, rewritings) = inner;
+    let made = filter_with(
+        alloc,
+        &query,
+        rewriting,
+        &condition,
+        subs.as_slice(),
+        standing.as_slice(),
+        rewritings,
+    );
+    drop(condition);
+    drop(query);
+    drop(subs);
+    drop(standing);
+    made
+}
+
+/// A rewriting of the first column of the first table, and whether it is greater than all rows of the second.
+fn project_query(alloc: Global) -> Result<Query, NoMemory> {
+    let rows = with_rewriting(alloc, first_table(alloc));
+    let greater = column_compared(SubKind::All(Compare::Greater), 0, second_table(alloc));
+    let inner = inside_tables(alloc, greater);
+    let items = first_column_and_sublink(alloc);
+    let (rows, inner, items) = three(rows, inner, items)?;
+    let (query, rewriting) = rows;
+    let (subs, standing, rewritings) = inner;
+    let made = project_with(
+        alloc,
+        &query,
+        rewriting,
+        items.as_slice(),
+        subs.as_slice(),
+        standing.as_slice(),
+        rewritings,
+    );
+    drop(items);
+    drop(query);
+    drop(subs);
+    drop(standing);
+    made
+}
+
+const ROWS: [&[Field<'static>]; 2] = [
+    &[Field::Number(1), Field::Word("x")],
+    &[Field::Number(2), Field::Word("y")],
+];
+
+/// A row for which there is one stands beside both that make it so.
+fn found_holds(alloc: Global) -> Result<bool, ExecError> {
+    let case = Case {
+        first: &ROWS,
+        second: &[&[Field::Number(1)]],
+        answer: &[&[
+            Field::Number(1),
+            Field::Word("x"),
+            Field::Number(1),
+            Field::Word("x"),
+            Field::Number(1),
+            Field::Number(1),
+        ]],
+    };
+    case.holds(alloc, filter_query(alloc, Ok(Expr::Sub { number: 0 })))
+}
+
+/// A row for which there is none stands beside NULLs.
+fn none_found_holds(alloc: Global) -> Result<bool, ExecError> {
+    let case = Case {
+        first: &ROWS,
+        second: &[&[Field::Number(1)]],
+        answer: &[&[
+            Field::Number(2),
+            Field::Word("y"),
+            Field::Number(2),
+            Field::Word("y"),
+            Field::Null,
+            Field::Null,
+        ]],
+    };
+    let condition = negated(alloc, Expr::Sub { number: 0 });
+    case.holds(alloc, filter_query(alloc, condition))
+}
+
+#[test]
+fn rules_put_candidates_beside_the_rows(rt: HostRuntime) -> Result<(), Fail> {
+    assert!(rt; found_holds(rt.alloc()) == Ok(true));
+    assert!(rt; none_found_holds(rt.alloc()) == Ok(true));
+    assert!(rt; NOT_GREATER.holds(rt.alloc(), project_query(rt.alloc())) == Ok(true));
+    Ok(())
+}
+
+/// The cross base of the rows of the second table for which there is such a row.
+fn cross_query(alloc: Global) -> Result<Query, NoMemory> {
+    let query = met(alloc)?;
+    if !over_tables(&query) {
+        drop(query);
+        return Err(NoMemory);
+    }
+    let made = cross_base(alloc, &query);
+    drop(query);
+    made
+}
+
+/// Both sources have each row of the table, or nothing.
+fn cross_holds(alloc: Global) -> Result<bool, ExecError> {
+    let case = Case {
+        first: &ROWS,
+        second: &[&[Field::Number(1)]],
+        answer: &[
+            &[Field::Null, Field::Null],
+            &[Field::Null, Field::Number(1)],
+            &[Field::Number(1), Field::Null],
+            &[Field::Number(1), Field::Number(1)],
+        ],
+    };
+    case.holds(alloc, cross_query(alloc))
+}
+
+fn nulls_hold(alloc: Global) -> Result<bool, ExecError> {
+    let case = Case {
+        first: &ROWS,
+        second: &[],
+        answer: &[&[Field::Null, Field::Null]],
+    };
+    let kinds = [Kind::Integer, Kind::Text];
+    case.holds(alloc, null_row(alloc, kinds.as_slice()))
+}
+
+#[test]
+fn candidates_are_all_rows_and_nulls(rt: HostRuntime) -> Result<(), Fail> {
+    assert!(rt; cross_holds(rt.alloc()) == Ok(true));
+    assert!(rt; nulls_hold(rt.alloc()) == Ok(true));
+    Ok(())
+}

@@ -1,0 +1,123 @@
+//! The rule of joins with sublinks in their condition (`rewrite_sublink`), called as it is.
+use crate::answers::{Case, Field};
+use crate::rewritten::{inside_tables, with_rewriting};
+use crate::trees::{
+    all_of, chosen, column_compared, compared, exists, first_table, outer, own, second_table,
+};
+use bag_algebra::{Expr, JoinKind, Query, SubKind, Sublink};
+use null_logic::Compare;
+use perm_values::{List, NoMemory, four};
+use rewrite_sublink::join_with;
+use row_executor::ExecError;
+use std::alloc::Global;
+use std::test::Fail;
+
+/// A rewriting of the join of the two tables where the first column equals the third and the sublink is true.
+fn join_query(
+    alloc: Global,
+    kind: JoinKind,
+    sub: Result<Sublink, NoMemory>,
+) -> Result<Query, NoMemory> {
+    let inner = inside_tables(alloc, sub);
+    let lefts = with_rewriting(alloc, first_table(alloc));
+    let rights = with_rewriting(alloc, second_table(alloc));
+    let equal = compared(alloc, Compare::Equal, own(0), own(2));
+    let condition = all_of(alloc, equal, Ok(Expr::Sub { number: 0 }));
+    let (lefts, rights, inner, condition) = four(lefts, rights, inner, condition)?;
+    let (left, left_rewriting) = lefts;
+    let (right, right_rewriting) = rights;
+    let (subs, standing, rewritings) = inner;
+    let made = join_with(
+        alloc,
+        kind,
+        &left,
+        left_rewriting,
+        &right,
+        right_rewriting,
+        &condition,
+        subs.as_slice(),
+        standing.as_slice(),
+        rewritings,
+    );
+    drop(condition);
+    drop(left);
+    drop(right);
+    drop(subs);
+    drop(standing);
+    made
+}
+
+/// Whether a row of the second table is less than the first column.
+fn some_less(alloc: Global) -> Result<Sublink, NoMemory> {
+    let condition = compared(alloc, Compare::Less, own(0), outer(1, 0));
+    exists(chosen(alloc, second_table(alloc), condition, Ok(List::new(alloc))))
+}
+
+/// A left row without a partner stands beside NULLs for the right side and for the sublink.
+fn left_holds(alloc: Global) -> Result<bool, ExecError> {
+    let case = Case {
+        first: &[
+            &[Field::Number(1), Field::Word("x")],
+            &[Field::Number(2), Field::Word("y")],
+        ],
+        second: &[&[Field::Number(1)], &[Field::Number(2)]],
+        answer: &[
+            &[
+                Field::Number(1),
+                Field::Word("x"),
+                Field::Null,
+                Field::Number(1),
+                Field::Word("x"),
+                Field::Null,
+                Field::Null,
+            ],
+            &[
+                Field::Number(2),
+                Field::Word("y"),
+                Field::Number(2),
+                Field::Number(2),
+                Field::Word("y"),
+                Field::Number(2),
+                Field::Number(1),
+            ],
+        ],
+    };
+    case.holds(alloc, join_query(alloc, JoinKind::Left, some_less(alloc)))
+}
+
+/// So does a right row, whose own column the sublink compares.
+fn right_holds(alloc: Global) -> Result<bool, ExecError> {
+    let case = Case {
+        first: &[&[Field::Number(1), Field::Word("x")]],
+        second: &[&[Field::Number(1)], &[Field::Number(3)]],
+        answer: &[
+            &[
+                Field::Number(1),
+                Field::Word("x"),
+                Field::Number(1),
+                Field::Number(1),
+                Field::Word("x"),
+                Field::Number(1),
+                Field::Number(1),
+            ],
+            &[
+                Field::Null,
+                Field::Null,
+                Field::Number(3),
+                Field::Null,
+                Field::Null,
+                Field::Number(3),
+                Field::Null,
+            ],
+        ],
+    };
+    let among = column_compared(SubKind::Any(Compare::Equal), 2, second_table(alloc));
+    case.holds(alloc, join_query(alloc, JoinKind::Right, among))
+}
+
+#[test]
+fn joins_keep_rows_without_partners(rt: HostRuntime) -> Result<(), Fail> {
+    assert!(rt; left_holds(rt.alloc()) == Ok(true));
+    assert!(rt; right_holds(rt.alloc()) == Ok(true));
+    Ok(())
+}
