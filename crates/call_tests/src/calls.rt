@@ -1,7 +1,10 @@
 //! Calls that take memory and that no run of the program reaches.
+use crate::answers::{Case, Field};
+use crate::trees::{first_column, first_table};
 use bag_algebra::{Env, Query, Tables};
-use perm_values::{Bytes, Chars, Copyable, NoMemory, Row, Value};
+use perm_values::{Bytes, Chars, Copyable, List, NoMemory, Row, Value};
 use row_executor::{ExecError, run_plain};
+use simpler_laws::project_standing;
 use std::alloc::Global;
 use std::test::Fail;
 
@@ -50,5 +53,25 @@ fn calls_without_a_run_succeed(rt: HostRuntime) -> Result<(), Fail> {
     assert_eq!(rt; bytes_copied(alloc, b"xy")?.as_slice(), b"xy".as_slice());
     assert_eq!(rt; env_copied(alloc)?, 1);
     assert!(rt; rows_of_single(alloc) == Ok(1));
+    Ok(())
+}
+
+/// The first column of the first table, by what stands for a Project.
+fn standing_columns(alloc: Global) -> Result<Query, NoMemory> {
+    let items = first_column(alloc)?;
+    let rows = first_table(alloc);
+    let made = project_standing(alloc, rows, &items, Ok(List::new(alloc)));
+    drop(items);
+    made
+}
+
+#[test]
+fn a_projection_stands_for_itself(rt: HostRuntime) -> Result<(), Fail> {
+    let case = Case {
+        first: &[&[Field::Number(1), Field::Word("x")]],
+        second: &[],
+        answer: &[&[Field::Number(1)]],
+    };
+    assert!(rt; case.holds(rt.alloc(), standing_columns(rt.alloc())) == Ok(true));
     Ok(())
 }

@@ -12,7 +12,7 @@ use null_logic::RunFault;
 use perm_catalog::{Catalog, CatalogRefusal};
 use perm_engine::Session;
 use perm_io::{MemoryFiles, NamedFile};
-use perm_values::{Bytes, Chars, List, NoMemory, Row, Rows, Value};
+use perm_values::{Bytes, Chars, Copyable, List, NoMemory, Row, Rows, Value};
 use row_executor::{ExecError, run_hashed};
 use sql_lexer::{Token, tokens};
 use sql_parser::{a_spelled_script_is_regular, script};
@@ -152,6 +152,41 @@ fn a_spent_catalog_creates_nothing(rt: HostRuntime) -> Result<(), Fail> {
     let spent = Err(CatalogRefusal::VersionsSpent);
     assert!(rt; created(rt.alloc(), u64::MAX)? == (spent, false));
     assert!(rt; created(rt.alloc(), u64::MAX - 1)? == (Ok(()), true));
+    Ok(())
+}
+
+/// How many tables the entry of the table `k` remembers, by its copy; 0 where there is no such table or it stores no provenance.
+fn remembered(alloc: Global, catalog: &Catalog) -> Result<usize, NoMemory> {
+    let name = Chars::from_text(alloc, "k")?;
+    let Some(entry) = catalog.table(&name) else {
+        return Ok(0);
+    };
+    let copy = entry.copy(alloc)?;
+    let count = match &copy.stored {
+        Some(stored) => stored.kept.len(),
+        None => 0,
+    };
+    drop(copy);
+    Ok(count)
+}
+
+#[test]
+fn an_entry_is_copied_with_what_it_remembers(rt: HostRuntime) -> Result<(), Fail> {
+    let alloc = rt.alloc();
+    let turns: [Turn<'_>; 2] = [
+        ("CREATE TABLE r (a INTEGER);", Ok("CREATE TABLE\n")),
+        (
+            "CREATE TABLE k AS SELECT PROVENANCE a FROM r;",
+            Ok("CREATE TABLE AS 0\n"),
+        ),
+    ];
+    let mut files = no_files(alloc)?;
+    let mut session = Session::new(alloc);
+    let taken = takes(alloc, &mut session, &mut files, &turns);
+    let count = remembered(alloc, session.catalog());
+    drop(session);
+    assert!(rt; taken);
+    assert_eq!(rt; count?, 1);
     Ok(())
 }
 
