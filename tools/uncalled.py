@@ -42,8 +42,7 @@ def closed(tokens, at):
 
 def type_name(tokens):
     """the last word of the first path behind the generics"""
-    at = depth = 0
-    found = ""
+    depth, found = 0, ""
     for token in tokens:
         depth += (token == "<") - (token == ">")
         if depth == 0 and (token[0].isalpha() or token[0] == "_"):

@@ -9,9 +9,8 @@ use crate::trees::{
 use bag_algebra::{Expr, Query, SubKind, over_tables};
 use contribution::{cross_base, null_row};
 use null_logic::Compare;
-use perm_values::{Kind, List, NoMemory, both, three};
+use perm_values::{Kind, List, NoMemory, three};
 use rewrite_sublink::{filter_with, project_with};
-use row_executor::ExecError;
 use std::alloc::Global;
 use std::test::Fail;
 
@@ -78,51 +77,47 @@ fn project_query(alloc: Global) -> Result<Query, NoMemory> {
     made
 }
 
-const ROWS: [&[Field<'static>]; 2] = [
+const ROWS: &[&[Field<'static>]] = &[
     &[Field::Number(1), Field::Word("x")],
     &[Field::Number(2), Field::Word("y")],
 ];
 
 /// A row for which there is one stands beside both that make it so.
-fn found_holds(alloc: Global) -> Result<bool, ExecError> {
-    let case = Case {
-        first: &ROWS,
-        second: &[&[Field::Number(1)]],
-        answer: &[&[
-            Field::Number(1),
-            Field::Word("x"),
-            Field::Number(1),
-            Field::Word("x"),
-            Field::Number(1),
-            Field::Number(1),
-        ]],
-    };
-    case.holds(alloc, filter_query(alloc, Ok(Expr::Sub { number: 0 })))
-}
+const FOUND: Case<'static> = Case {
+    first: ROWS,
+    second: &[&[Field::Number(1)]],
+    answer: &[&[
+        Field::Number(1),
+        Field::Word("x"),
+        Field::Number(1),
+        Field::Word("x"),
+        Field::Number(1),
+        Field::Number(1),
+    ]],
+};
 
 /// A row for which there is none stands beside NULLs.
-fn none_found_holds(alloc: Global) -> Result<bool, ExecError> {
-    let case = Case {
-        first: &ROWS,
-        second: &[&[Field::Number(1)]],
-        answer: &[&[
-            Field::Number(2),
-            Field::Word("y"),
-            Field::Number(2),
-            Field::Word("y"),
-            Field::Null,
-            Field::Null,
-        ]],
-    };
-    let condition = negated(alloc, Expr::Sub { number: 0 });
-    case.holds(alloc, filter_query(alloc, condition))
-}
+const NONE_FOUND: Case<'static> = Case {
+    first: ROWS,
+    second: &[&[Field::Number(1)]],
+    answer: &[&[
+        Field::Number(2),
+        Field::Word("y"),
+        Field::Number(2),
+        Field::Word("y"),
+        Field::Null,
+        Field::Null,
+    ]],
+};
 
 #[test]
 fn rules_put_candidates_beside_the_rows(rt: HostRuntime) -> Result<(), Fail> {
-    assert!(rt; found_holds(rt.alloc()) == Ok(true));
-    assert!(rt; none_found_holds(rt.alloc()) == Ok(true));
-    assert!(rt; NOT_GREATER.holds(rt.alloc(), project_query(rt.alloc())) == Ok(true));
+    let alloc = rt.alloc();
+    let found = filter_query(alloc, Ok(Expr::Sub { number: 0 }));
+    assert!(rt; FOUND.holds(alloc, found) == Ok(true));
+    let none_found = filter_query(alloc, negated(alloc, Expr::Sub { number: 0 }));
+    assert!(rt; NONE_FOUND.holds(alloc, none_found) == Ok(true));
+    assert!(rt; NOT_GREATER.holds(alloc, project_query(alloc)) == Ok(true));
     Ok(())
 }
 
@@ -139,33 +134,28 @@ fn cross_query(alloc: Global) -> Result<Query, NoMemory> {
 }
 
 /// Both sources have each row of the table, or nothing.
-fn cross_holds(alloc: Global) -> Result<bool, ExecError> {
-    let case = Case {
-        first: &ROWS,
-        second: &[&[Field::Number(1)]],
-        answer: &[
-            &[Field::Null, Field::Null],
-            &[Field::Null, Field::Number(1)],
-            &[Field::Number(1), Field::Null],
-            &[Field::Number(1), Field::Number(1)],
-        ],
-    };
-    case.holds(alloc, cross_query(alloc))
-}
+const CROSSED: Case<'static> = Case {
+    first: ROWS,
+    second: &[&[Field::Number(1)]],
+    answer: &[
+        &[Field::Null, Field::Null],
+        &[Field::Null, Field::Number(1)],
+        &[Field::Number(1), Field::Null],
+        &[Field::Number(1), Field::Number(1)],
+    ],
+};
 
-fn nulls_hold(alloc: Global) -> Result<bool, ExecError> {
-    let case = Case {
-        first: &ROWS,
-        second: &[],
-        answer: &[&[Field::Null, Field::Null]],
-    };
-    let kinds = [Kind::Integer, Kind::Text];
-    case.holds(alloc, null_row(alloc, kinds.as_slice()))
-}
+const NULLS: Case<'static> = Case {
+    first: ROWS,
+    second: &[],
+    answer: &[&[Field::Null, Field::Null]],
+};
 
 #[test]
 fn candidates_are_all_rows_and_nulls(rt: HostRuntime) -> Result<(), Fail> {
-    assert!(rt; cross_holds(rt.alloc()) == Ok(true));
-    assert!(rt; nulls_hold(rt.alloc()) == Ok(true));
+    let alloc = rt.alloc();
+    assert!(rt; CROSSED.holds(alloc, cross_query(alloc)) == Ok(true));
+    let nulls = null_row(alloc, [Kind::Integer, Kind::Text].as_slice());
+    assert!(rt; NULLS.holds(alloc, nulls) == Ok(true));
     Ok(())
 }

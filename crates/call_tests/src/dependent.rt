@@ -9,7 +9,6 @@ use bag_algebra::{Expr, Query, SubKind, Sublink};
 use lateral_rewrite::{filter_lateral, project_lateral};
 use null_logic::Compare;
 use perm_values::{List, NoMemory, both, three};
-use row_executor::ExecError;
 use std::alloc::Global;
 use std::test::Fail;
 
@@ -67,31 +66,28 @@ fn project_query(alloc: Global) -> Result<Query, NoMemory> {
 }
 
 /// A row stands beside the row of the view.
-fn filter_holds(alloc: Global) -> Result<bool, ExecError> {
-    let case = Case {
-        first: &[
-            &[Field::Number(1), Field::Word("x")],
-            &[Field::Number(2), Field::Word("y")],
-        ],
-        second: &[
-            &[Field::Number(1)],
-            &[Field::Number(2)],
-            &[Field::Number(2)],
-        ],
-        answer: &[&[
-            Field::Number(2),
-            Field::Word("y"),
-            Field::Number(2),
-            Field::Word("y"),
-            Field::Number(2),
-        ]],
-    };
-    case.holds(alloc, filter_query(alloc))
-}
+const SEEN: Case<'static> = Case {
+    first: &[
+        &[Field::Number(1), Field::Word("x")],
+        &[Field::Number(2), Field::Word("y")],
+    ],
+    second: &[
+        &[Field::Number(1)],
+        &[Field::Number(2)],
+        &[Field::Number(2)],
+    ],
+    answer: &[&[
+        Field::Number(2),
+        Field::Word("y"),
+        Field::Number(2),
+        Field::Word("y"),
+        Field::Number(2),
+    ]],
+};
 
 #[test]
 fn dependent_joins_put_what_contributes_beside_the_rows(rt: HostRuntime) -> Result<(), Fail> {
-    assert!(rt; filter_holds(rt.alloc()) == Ok(true));
+    assert!(rt; SEEN.holds(rt.alloc(), filter_query(rt.alloc())) == Ok(true));
     assert!(rt; NOT_GREATER.holds(rt.alloc(), project_query(rt.alloc())) == Ok(true));
     Ok(())
 }

@@ -8,7 +8,6 @@ use bag_algebra::{Expr, JoinKind, Query, SubKind, Sublink};
 use null_logic::Compare;
 use perm_values::{List, NoMemory, four};
 use rewrite_sublink::join_with;
-use row_executor::ExecError;
 use std::alloc::Global;
 use std::test::Fail;
 
@@ -54,70 +53,71 @@ fn some_less(alloc: Global) -> Result<Sublink, NoMemory> {
 }
 
 /// A left row without a partner stands beside NULLs for the right side and for the sublink.
-fn left_holds(alloc: Global) -> Result<bool, ExecError> {
-    let case = Case {
-        first: &[
-            &[Field::Number(1), Field::Word("x")],
-            &[Field::Number(2), Field::Word("y")],
+const LEFT: Case<'static> = Case {
+    first: &[
+        &[Field::Number(1), Field::Word("x")],
+        &[Field::Number(2), Field::Word("y")],
+    ],
+    second: &[&[Field::Number(1)], &[Field::Number(2)]],
+    answer: &[
+        &[
+            Field::Number(1),
+            Field::Word("x"),
+            Field::Null,
+            Field::Number(1),
+            Field::Word("x"),
+            Field::Null,
+            Field::Null,
         ],
-        second: &[&[Field::Number(1)], &[Field::Number(2)]],
-        answer: &[
-            &[
-                Field::Number(1),
-                Field::Word("x"),
-                Field::Null,
-                Field::Number(1),
-                Field::Word("x"),
-                Field::Null,
-                Field::Null,
-            ],
-            &[
-                Field::Number(2),
-                Field::Word("y"),
-                Field::Number(2),
-                Field::Number(2),
-                Field::Word("y"),
-                Field::Number(2),
-                Field::Number(1),
-            ],
+        &[
+            Field::Number(2),
+            Field::Word("y"),
+            Field::Number(2),
+            Field::Number(2),
+            Field::Word("y"),
+            Field::Number(2),
+            Field::Number(1),
         ],
-    };
-    case.holds(alloc, join_query(alloc, JoinKind::Left, some_less(alloc)))
-}
+    ],
+};
 
 /// So does a right row, whose own column the sublink compares.
-fn right_holds(alloc: Global) -> Result<bool, ExecError> {
-    let case = Case {
-        first: &[&[Field::Number(1), Field::Word("x")]],
-        second: &[&[Field::Number(1)], &[Field::Number(3)]],
-        answer: &[
-            &[
-                Field::Number(1),
-                Field::Word("x"),
-                Field::Number(1),
-                Field::Number(1),
-                Field::Word("x"),
-                Field::Number(1),
-                Field::Number(1),
-            ],
-            &[
-                Field::Null,
-                Field::Null,
-                Field::Number(3),
-                Field::Null,
-                Field::Null,
-                Field::Number(3),
-                Field::Null,
-            ],
+const RIGHT: Case<'static> = Case {
+    first: &[&[Field::Number(1), Field::Word("x")]],
+    second: &[&[Field::Number(1)], &[Field::Number(3)]],
+    answer: &[
+        &[
+            Field::Number(1),
+            Field::Word("x"),
+            Field::Number(1),
+            Field::Number(1),
+            Field::Word("x"),
+            Field::Number(1),
+            Field::Number(1),
         ],
-    };
-    let among = column_compared(SubKind::Any(Compare::Equal), 2, second_table(alloc));
-    case.holds(alloc, join_query(alloc, JoinKind::Right, among))
+        &[
+            Field::Null,
+            Field::Null,
+            Field::Number(3),
+            Field::Null,
+            Field::Null,
+            Field::Number(3),
+            Field::Null,
+        ],
+    ],
+};
+
+/// Whether the third column equals a row of the second table.
+fn third_among(alloc: Global) -> Result<Sublink, NoMemory> {
+    column_compared(SubKind::Any(Compare::Equal), 2, second_table(alloc))
 }
 
 #[test]
 fn joins_keep_rows_without_partners(rt: HostRuntime) -> Result<(), Fail> {
-    assert!(rt; left_holds(rt.alloc()) == Ok(true));
-    assert!(rt; right_holds(rt.alloc()) == Ok(true));
+    let alloc = rt.alloc();
+    let left = join_query(alloc, JoinKind::Left, some_less(alloc));
+    assert!(rt; LEFT.holds(alloc, left) == Ok(true));
+    let right = join_query(alloc, JoinKind::Right, third_among(alloc));
+    assert!(rt; RIGHT.holds(alloc, right) == Ok(true));
     Ok(())
 }

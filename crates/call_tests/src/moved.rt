@@ -6,7 +6,6 @@ use bag_algebra::{Expr, Query, SubKind};
 use null_logic::Compare;
 use perm_values::{NoMemory, both, three};
 use rewrite_move::{filter_moved, project_moved};
-use row_executor::ExecError;
 use std::alloc::Global;
 use std::test::Fail;
 
@@ -59,27 +58,24 @@ fn project_query(alloc: Global) -> Result<Query, NoMemory> {
 }
 
 /// A row stays beside the row that it equals, and no row beside NULL.
-fn filter_holds(alloc: Global) -> Result<bool, ExecError> {
-    let case = Case {
-        first: &[
-            &[Field::Number(1), Field::Word("x")],
-            &[Field::Number(2), Field::Word("y")],
-        ],
-        second: &[&[Field::Number(1)], &[Field::Null]],
-        answer: &[&[
-            Field::Number(1),
-            Field::Word("x"),
-            Field::Number(1),
-            Field::Word("x"),
-            Field::Number(1),
-        ]],
-    };
-    case.holds(alloc, filter_query(alloc))
-}
+const EQUAL: Case<'static> = Case {
+    first: &[
+        &[Field::Number(1), Field::Word("x")],
+        &[Field::Number(2), Field::Word("y")],
+    ],
+    second: &[&[Field::Number(1)], &[Field::Null]],
+    answer: &[&[
+        Field::Number(1),
+        Field::Word("x"),
+        Field::Number(1),
+        Field::Word("x"),
+        Field::Number(1),
+    ]],
+};
 
 #[test]
 fn rules_put_what_contributes_beside_the_rows(rt: HostRuntime) -> Result<(), Fail> {
-    assert!(rt; filter_holds(rt.alloc()) == Ok(true));
+    assert!(rt; EQUAL.holds(rt.alloc(), filter_query(rt.alloc())) == Ok(true));
     assert!(rt; NOT_GREATER.holds(rt.alloc(), project_query(rt.alloc())) == Ok(true));
     Ok(())
 }

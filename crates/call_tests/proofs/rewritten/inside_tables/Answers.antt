@@ -1,4 +1,8 @@
-use Rattle.std.proofs.Common.{[], ◌∷◌, sym, subst}
+use Rattle.std.proofs.Common.{[], ◌∷◌, ◌∙◌, sym, subst}
+use Rattle.std.specs.Bool.{IsTrue}
+use Rattle.bag_algebra.specs.built.Scopes.{all_over_tables}
+use Rattle.perm_values.proofs.Results.{where_made}
+use Rattle.call_tests.proofs.Rewriting.{only-over_tables}
 use Rattle.perm_values.proofs.Taken.{opened}
 use Rattle.rewrite_driver.proofs.MadeQueries.{both_made}
 use Rattle.rewrite_sublink.specs.SubRewritings.{SubsRewritten}
@@ -11,4 +15,5 @@ returns-clause-rewritten c =
 
 pub returns-clause-over_tables : goal.returns-clause-over_tables
 returns-clause-over_tables c =
-    where_made _ (λ s. IsTrue (all_over_tables s.0)) c.whole.result (λ s own. subst (λ subs. IsTrue (all_over_tables subs)) (sym own) ?) c.whole.ensures.own
+    where_made _ (λ s. IsTrue (all_over_tables s.0)) c.whole.result (λ s own. subst (λ subs. IsTrue (all_over_tables subs)) (sym own)
+    (only-over_tables c.in_ok-sub.sub (sym c.if-not-over_tables.false ∙ c.over_tables.ensures))) c.whole.ensures.own
