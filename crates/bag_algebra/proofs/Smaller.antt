@@ -1,5 +1,5 @@
 -- What a recursion over queries goes by: the children of a node have fewer operators than the node.
-use Rattle.std.proofs.Common.{◌≡◌, ℕ, zero, suc, ◌<◌, ◌≤◌, List, [], ◌∷◌, length, get_or, ap, arith}
+use Rattle.std.proofs.Common.{◌≡◌, ℕ, zero, suc, ◌<◌, ◌≤◌, List, [], ◌∷◌, length, get_or, sym, ap, arith}
 use Rattle.bag_algebra.specs.built.Measures.{inputs_size, subs_size}
 use Rattle.bag_algebra.specs.Inputs.{inputs_of, sublinks_of}
 use Rattle.bag_algebra.specs.Measures.{size_of}
@@ -9,6 +9,9 @@ use Rattle.bag_algebra.proofs.ByChildren.{size_of-node}
 
 pub inputs-smaller : (query : Query) (inputs : List Query) → inputs ≡ inputs_of query → inputs_size inputs < size_of query
 inputs-smaller query inputs are = omega (arith, size_of-node query, ap inputs_size are)
+
+pub first_smaller : (query input taken : Query) (rest : List Query) → taken ≡ input → inputs_of query ≡ input ∷ rest → size_of taken < size_of query
+first_smaller query input taken rest is are = omega (arith, ap size_of is, inputs-smaller query (input ∷ rest) (sym are))
 
 pub sublinks-smaller : (query : Query) (subs : List Sublink) → subs ≡ sublinks_of query → subs_size subs < size_of query
 sublinks-smaller query subs are = omega (arith, size_of-node query, ap subs_size are)

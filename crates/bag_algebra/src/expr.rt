@@ -5,7 +5,6 @@ use perm_values::{Boxed, Copyable, Kind, List, NoMemory, Value, both};
 use std::alloc::Global;
 
 /// An expression over the rows that it sees: its node's own row, and the outer rows around it.
-#[derive(Drop)]
 #[cycle(expr)]
 pub enum Expr {
     /// A column: level 0 reads the node's own row, level k the kth outer row.
@@ -74,6 +73,32 @@ pub struct Arm {
 pub struct Item {
     pub expr: Expr,
     pub kind: Kind,
+}
+
+impl Drop for Expr {
+    #[cycle(expr)]
+    fn drop(self) {
+        match self {
+            Expr::Col { level: _, place: _ } => {}
+            Expr::Lit { value: _, kind: _ } => {}
+            Expr::Op { op: _, parts } => drop(parts),
+            Expr::Chain { first, steps } => {
+                drop(first);
+                drop(steps);
+            }
+            Expr::Case { arms, otherwise } => {
+                drop(arms);
+                drop(otherwise);
+            }
+            Expr::Sub { number: _ } => {}
+            Expr::IsNull { part } => drop(part),
+            Expr::IsTruth { truth: _, part } => drop(part),
+            Expr::Same { first, second } => {
+                drop(first);
+                drop(second);
+            }
+        }
+    }
 }
 
 impl Copyable for Expr {

@@ -23,5 +23,7 @@ pub use measures::{
     well_formed_queries_read_their_outer_rows_alone, width,
 };
 pub use place::Place;
-pub use query::{AggFn, Aggr, Answer, JoinKind, Label, Query, SubKind, Sublink};
+pub use query::{
+    AggFn, Aggr, Answer, JoinKind, JoinParts, Label, Projection, Query, Selection, SubKind, Sublink,
+};
 pub use tables::Tables;

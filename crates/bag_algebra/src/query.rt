@@ -1,3 +1,12 @@
+ghost use Rattle.std.specs.Prelude.{◌≡◌, ◌<◌, List as ItemsOf, IfOk, IfErr, IfSome};
+ghost use Rattle.bag_algebra.specs.Measures.{size_of};
+ghost use Rattle.bag_algebra.specs.declared.expr.Expr.{Expr};
+ghost use Rattle.bag_algebra.specs.declared.expr.Item.{Item};
+ghost use Rattle.bag_algebra.specs.declared.query.JoinKind.{JoinKind};
+ghost use Rattle.bag_algebra.specs.declared.query.Query.TheVariants.{Filter, Project, Join};
+ghost use Rattle.bag_algebra.specs.declared.query.Query.{Query};
+ghost use Rattle.bag_algebra.specs.declared.query.Sublink.{Sublink};
+
 use crate::expr::{Expr, Item};
 use null_logic::Compare;
 use perm_values::{Boxed, Chars, Key, Kind, List};
@@ -56,7 +65,6 @@ pub enum Label {
 }
 
 /// A query over bags.
-#[derive(Drop)]
 #[cycle(query)]
 pub enum Query {
     Table {
@@ -130,4 +138,246 @@ pub struct Answer {
     pub query: Query,
     pub names: List<Chars>,
     pub keys: List<Key>,
+}
+
+/// A projection's input, items and sublinks.
+#[derive(Drop)]
+pub struct Projection {
+    pub input: Query,
+    pub items: List<Item>,
+    pub subs: List<Sublink>,
+}
+
+/// A filter's input, condition and sublinks.
+#[derive(Drop)]
+pub struct Selection {
+    pub input: Query,
+    pub condition: Expr,
+    pub subs: List<Sublink>,
+}
+
+/// A join's sides, its kind, its condition and its sublinks.
+#[derive(Drop)]
+pub struct JoinParts {
+    pub kind: JoinKind,
+    pub left: Query,
+    pub right: Query,
+    pub condition: Expr,
+    pub subs: List<Sublink>,
+}
+
+impl Drop for Query {
+    #[cycle(query)]
+    fn drop(self) {
+        match self {
+            Query::Table { id: _, kinds: _ } => {}
+            Query::Single => {}
+            Query::Base {
+                input,
+                places: _,
+                label: _,
+            } => drop(input),
+            Query::Filter {
+                input,
+                condition: _,
+                subs,
+            } => {
+                drop(input);
+                drop(subs);
+            }
+            Query::Project {
+                input,
+                items: _,
+                subs,
+            } => {
+                drop(input);
+                drop(subs);
+            }
+            Query::Join {
+                kind: _,
+                left,
+                right,
+                condition: _,
+                subs,
+            } => {
+                drop(left);
+                drop(right);
+                drop(subs);
+            }
+            Query::Apply {
+                kind: _,
+                left,
+                right,
+            } => {
+                drop(left);
+                drop(right);
+            }
+            Query::Union {
+                all: _,
+                left,
+                right,
+            } => {
+                drop(left);
+                drop(right);
+            }
+            Query::Intersect {
+                all: _,
+                left,
+                right,
+            } => {
+                drop(left);
+                drop(right);
+            }
+            Query::Except {
+                all: _,
+                left,
+                right,
+            } => {
+                drop(left);
+                drop(right);
+            }
+            Query::Distinct { input } => drop(input),
+            Query::Aggregate {
+                input,
+                groups: _,
+                aggregates: _,
+            } => drop(input),
+            Query::Limit {
+                input,
+                keys: _,
+                count: _,
+            } => drop(input),
+            Query::Prov { input } => drop(input),
+        }
+    }
+}
+
+impl Query {
+    /// The first input of the topmost node, if it has one. All else of it is let go. It takes no memory.
+    pub fn into_first_input(self) -> Option<Query>
+        ensures { IfSome result (λ input. size_of input < size_of self) }
+    {
+        match self {
+            Query::Table { .. } => None,
+            Query::Single => None,
+            Query::Base {
+                input,
+                places: _places,
+                label: _label,
+            } => Some(input.into_inner()),
+            Query::Filter {
+                input,
+                condition: _condition,
+                subs: _subs,
+            } => Some(input.into_inner()),
+            Query::Project {
+                input,
+                items: _items,
+                subs: _subs,
+            } => Some(input.into_inner()),
+            Query::Join {
+                kind: _kind,
+                left,
+                right: _right,
+                condition: _condition,
+                subs: _subs,
+            } => Some(left.into_inner()),
+            Query::Apply {
+                kind: _kind,
+                left,
+                right: _right,
+            } => Some(left.into_inner()),
+            Query::Union {
+                all: _all,
+                left,
+                right: _right,
+            } => Some(left.into_inner()),
+            Query::Intersect {
+                all: _all,
+                left,
+                right: _right,
+            } => Some(left.into_inner()),
+            Query::Except {
+                all: _all,
+                left,
+                right: _right,
+            } => Some(left.into_inner()),
+            Query::Distinct { input } => Some(input.into_inner()),
+            Query::Aggregate {
+                input,
+                groups: _groups,
+                aggregates: _aggregates,
+            } => Some(input.into_inner()),
+            Query::Limit {
+                input,
+                keys: _keys,
+                count: _count,
+            } => Some(input.into_inner()),
+            Query::Prov { input } => Some(input.into_inner()),
+        }
+    }
+
+    /// The parts of a projection; a query that is none comes back. It takes no memory.
+    pub fn into_projection(self) -> Result<Projection, Query>
+        ensures parts { IfOk result (λ parts. self ≡ Project parts.input parts.items parts.subs) }
+        ensures same { IfErr result (λ query. query ≡ self) }
+        ensures other { IfErr result (λ _. (input : Query) (items : ItemsOf Item) (subs : ItemsOf Sublink) →
+            self ≡ Project input items subs → ⊥) }
+    {
+        match self {
+            Query::Project { input, items, subs } => Ok(Projection {
+                input: input.into_inner(),
+                items,
+                subs,
+            }),
+            other => Err(other),
+        }
+    }
+
+    /// The parts of a filter; a query that is none comes back. It takes no memory.
+    pub fn into_selection(self) -> Result<Selection, Query>
+        ensures parts { IfOk result (λ parts. self ≡ Filter parts.input parts.condition parts.subs) }
+        ensures same { IfErr result (λ query. query ≡ self) }
+        ensures other { IfErr result (λ _. (input : Query) (condition : Expr) (subs : ItemsOf Sublink) →
+            self ≡ Filter input condition subs → ⊥) }
+    {
+        match self {
+            Query::Filter {
+                input,
+                condition,
+                subs,
+            } => Ok(Selection {
+                input: input.into_inner(),
+                condition,
+                subs,
+            }),
+            other => Err(other),
+        }
+    }
+
+    /// The parts of a join; a query that is none comes back. It takes no memory.
+    pub fn into_join(self) -> Result<JoinParts, Query>
+        ensures parts { IfOk result (λ parts.
+            self ≡ Join parts.kind parts.left parts.right parts.condition parts.subs) }
+        ensures same { IfErr result (λ query. query ≡ self) }
+        ensures other { IfErr result (λ _. (kind : JoinKind) (left right : Query) (condition : Expr)
+            (subs : ItemsOf Sublink) → self ≡ Join kind left right condition subs → ⊥) }
+    {
+        match self {
+            Query::Join {
+                kind,
+                left,
+                right,
+                condition,
+                subs,
+            } => Ok(JoinParts {
+                kind,
+                left: left.into_inner(),
+                right: right.into_inner(),
+                condition,
+                subs,
+            }),
+            other => Err(other),
+        }
+    }
 }

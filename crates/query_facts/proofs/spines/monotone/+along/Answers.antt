@@ -1,7 +1,8 @@
 use Rattle.std.proofs.Common.{◌≡◌, ◌∷◌, [], refl, sym, ap, arith, ◌∙◌}
 use Rattle.bag_algebra.specs.Inputs.{given}
 use Rattle.query_facts.proofs.spines.Nodes.{one_input, left_input}
-use Rattle.query_facts.proofs.spines.Smaller.{first_smaller, second_smaller}
+use Rattle.bag_algebra.proofs.Smaller.{first_smaller}
+use Rattle.query_facts.proofs.spines.Smaller.{second_smaller}
 use Rattle.query_facts.proofs.spines.monotone.+along.Goals as goal
 
 pub down-smaller-in-One : goal.down-smaller-in-One
