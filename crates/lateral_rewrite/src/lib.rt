@@ -17,5 +17,5 @@ pub use laws::{
     dependent_joins_of_rewritings_rewrite, filters_over_dependent_joins_rewrite,
     projects_over_dependent_joins_rewrite,
 };
-pub use rules::{filter_lateral, project_lateral};
+pub use rules::{filter_lateral, join_lateral, project_lateral};
 pub use sides::{chosen_provenance, valued};

@@ -8,13 +8,13 @@ ghost use Rattle.rewrite_move.specs.Moved.{SubsTraced};
 
 use bag_algebra::{Expr, JoinKind, Query, Sublink};
 use perm_values::{List, NoMemory};
-use rewrite_move::filter_moved;
+use rewrite_move::filter_traced;
 use rewrite_sublink::{Crossed, every_pair, over_pairs};
 use std::alloc::Global;
 
 /// A rewriting of a Join with sublinks: the pairs that meet its condition are a Filter over all pairs, and the rows without a
 /// partner stand beside NULLs. It fails only for want of memory.
-pub(crate) fn join_moved(
+pub(crate) fn join_traced(
     alloc: Global,
     kind: JoinKind,
     left: &Query,
@@ -41,7 +41,7 @@ pub(crate) fn join_moved(
         return Err(NoMemory);
     };
     let Crossed { pairs, rewriting } = crossed;
-    let met = filter_moved(
+    let met = filter_traced(
         alloc, &pairs, rewriting, condition, subs, standing, rewritings,
     );
     drop(pairs);

@@ -5,14 +5,14 @@ ghost use Rattle.bag_algebra.specs.declared.query.Query.TheVariants.{Base, Filte
 ghost use Rattle.bag_algebra.specs.declared.query.Query.{Query};
 ghost use Rattle.rewrite_driver.specs.KeptClosed.{RewritesClosed, StandsClosed, SubsStandClosed, SubsTracedClosed};
 
-use crate::joins::join_moved;
+use crate::joins::join_traced;
 use bag_algebra::{Aggr, Expr, Item, JoinKind, Query, Sublink};
 use lateral_rewrite::apply;
 use perm_values::{Key, List, NoMemory, both, four, three};
 use rewrite_core::{
     aggregate, base, distinct, except, filter, intersect, join, limit, project, union_of,
 };
-use rewrite_move::{filter_moved, project_moved};
+use rewrite_move::{filter_traced, project_traced};
 use std::alloc::Global;
 
 /// A rewriting of a source whose input this stands for. It fails where that failed, and for want of memory.
@@ -48,7 +48,7 @@ pub(crate) fn filter_rule(
     if subs.is_empty() {
         return filter(alloc, input, rewriting, condition);
     }
-    filter_moved(
+    filter_traced(
         alloc,
         input,
         rewriting,
@@ -79,7 +79,7 @@ pub(crate) fn project_rule(
     if subs.is_empty() {
         return project(alloc, input, rewriting, items);
     }
-    project_moved(
+    project_traced(
         alloc,
         input,
         rewriting,
@@ -114,7 +114,7 @@ pub(crate) fn join_rule(
     if subs.is_empty() {
         return join(alloc, kind, left, lefts, right, rights, condition);
     }
-    join_moved(
+    join_traced(
         alloc,
         kind,
         left,

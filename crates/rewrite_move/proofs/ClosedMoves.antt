@@ -18,7 +18,8 @@ use Rattle.rewrite_core.specs.rewritings.OpenSublinks.{IsClosedSublink, NoOpenSu
 use Rattle.rewrite_move.specs.ForcedTruths.{forces}
 use Rattle.rewrite_move.specs.Moved.{all_moved, matched, moved, moved_by, operand_item, provenance_kinds}
 use Rattle.rewrite_move.specs.Shares.{share_of}
-use Rattle.rewrite_move.specs.Traced.{below_by, below_groups, traced_of}
+use Rattle.rewrite_move.specs.Traced.{below_by, below_groups, query_from, traced_of}
+use Rattle.rewrite_move.specs.declared.below.Origin.{Origin}
 use Rattle.rewrite_move.specs.declared.share.Share.{Share}
 use Rattle.rewrite_move.specs.declared.share.Share.TheVariants.{NoRow, AllRows, MatchingRows, ByValue}
 use Rattle.rewrite_sublink.specs.Candidates.{beside_row}
@@ -82,13 +83,13 @@ by-closed AllRows query rows stand r h s k = (h, (k, tt))
 by-closed (MatchingRows choice) query rows stand r h s k = matched-closed choice stand.tested rows stand r h k
 by-closed ByValue query rows stand r h s k = contributed-closed rows stand r h s k
 
-pub all-moved-closed : (condition : Expr) (at : ℕ) (rows : Query) (subs standing : List Sublink) (rewritings : List Query) → NoOpenSublink rows →
-    All IsClosedSublink standing → All NoOpenSublink rewritings → NoOpenSublink (all_moved condition at rows subs standing rewritings)
-all-moved-closed condition at rows [] standing rewritings h s k = h
-all-moved-closed condition at rows (sub ∷ subs) [] rewritings h s k = h
-all-moved-closed condition at rows (sub ∷ subs) (stand ∷ standing) [] h s k = h
-all-moved-closed condition at rows (sub ∷ subs) (stand ∷ standing) (r ∷ rewritings) h s k =
-    all-moved-closed condition (suc at) (moved (forces condition at) rows sub stand r) subs standing rewritings
-    (by-closed (share_of sub.kind (forces condition at)) (traced_of sub) rows stand r h (All-head IsClosedSublink stand standing s)
+pub all-moved-closed : (origin : Origin) (condition : Expr) (at : ℕ) (rows : Query) (subs standing : List Sublink) (rewritings : List Query) → NoOpenSublink rows →
+    All IsClosedSublink standing → All NoOpenSublink rewritings → NoOpenSublink (all_moved origin condition at rows subs standing rewritings)
+all-moved-closed origin condition at rows [] standing rewritings h s k = h
+all-moved-closed origin condition at rows (sub ∷ subs) [] rewritings h s k = h
+all-moved-closed origin condition at rows (sub ∷ subs) (stand ∷ standing) [] h s k = h
+all-moved-closed origin condition at rows (sub ∷ subs) (stand ∷ standing) (r ∷ rewritings) h s k =
+    all-moved-closed origin condition (suc at) (moved origin (forces condition at) rows sub stand r) subs standing rewritings
+    (by-closed (share_of sub.kind (forces condition at)) (query_from origin sub) rows stand r h (All-head IsClosedSublink stand standing s)
     (All-head NoOpenSublink r rewritings k))
     (All-tail IsClosedSublink stand standing s) (All-tail NoOpenSublink r rewritings k)

@@ -18,10 +18,13 @@ use Rattle.query_laws.specs.Standing.{SubStands, SubsStand}
 use Rattle.rewrite_core.specs.rewritings.KeptColumns.{columns_kept}
 use Rattle.rewrite_move.proofs.LikeQueries.{like-beside, like-beside_row, like-columns_and, like-columns_kept}
 use Rattle.rewrite_move.specs.ForcedTruths.{forces}
-use Rattle.rewrite_move.specs.Moved.{Like, SubsTraced, all_moved, beside_nulls, matched, matching_beside, matching_provenance, moved, moved_by, operand_item, with_operand}
+use Rattle.rewrite_move.specs.Moved.{Like, SubsFrom, all_moved, beside_nulls, matched, matching_beside, matching_provenance, moved, moved_by, operand_item, with_operand}
 use Rattle.rewrite_move.specs.Shares.{share_of}
 use Rattle.rewrite_move.specs.declared.share.Share.{Share}
-use Rattle.rewrite_move.specs.Traced.{traced_of}
+use Rattle.rewrite_move.specs.Traced.{query_from}
+use Rattle.rewrite_move.specs.declared.below.Origin.{Origin}
+use Rattle.rewrite_move.specs.declared.below.Origin.TheVariants.{Own}
+use Rattle.rewrite_sublink.specs.SubRewritings.{SubsRewritten}
 use Rattle.query_laws.specs.spines.Spines.{IsBeside, IsJoined}
 
 -- ---- one sublink
@@ -74,46 +77,46 @@ module _ (whole rows : Query) (l : Like whole rows) (r : Query) (plain : is_plai
 -- ---- one after another
 
 -- what a loop has so far: rows like those of the sublinks before, of which the others make the whole
-pub record SoFar (condition : Expr) (rows whole : Query) (subs standing : List Sublink) (rewritings : List Query) (at : ℕ) : Type 0 where
+pub record SoFar (origin : Origin) (condition : Expr) (rows whole : Query) (subs standing : List Sublink) (rewritings : List Query) (at : ℕ) : Type 0 where
   pub reached : Query
   pub like : Like reached whole
-  pub same : all_moved condition at reached (drop at subs) (drop at standing) (drop at rewritings) ≡ all_moved condition 0 rows subs standing rewritings
+  pub same : all_moved origin condition at reached (drop at subs) (drop at standing) (drop at rewritings) ≡ all_moved origin condition 0 rows subs standing rewritings
 
-pub so_far-first : (condition : Expr) (rows : Query) (subs standing : List Sublink) (rewritings : List Query) → Like rows rows →
-    SoFar condition rows rows subs standing rewritings 0
-so_far-first condition rows subs standing rewritings l = record { reached = rows; like = l; same = refl }
+pub so_far-first : (origin : Origin) (condition : Expr) (rows : Query) (subs standing : List Sublink) (rewritings : List Query) → Like rows rows →
+    SoFar origin condition rows rows subs standing rewritings 0
+so_far-first origin condition rows subs standing rewritings l = record { reached = rows; like = l; same = refl }
 
-pub so_far-next : (condition : Expr) (rows whole next : Query) (subs standing : List Sublink) (rewritings : List Query) (at : ℕ) (sub stand : Sublink) (rewriting : Query) →
+pub so_far-next : (origin : Origin) (condition : Expr) (rows whole next : Query) (subs standing : List Sublink) (rewritings : List Query) (at : ℕ) (sub stand : Sublink) (rewriting : Query) →
     at < length subs → at < length standing → at < length rewritings →
     sub ≡ get_or subs at sub → stand ≡ get_or standing at stand → rewriting ≡ get_or rewritings at rewriting →
-    SoFar condition rows whole subs standing rewritings at →
-    ((before : Query) → Like before whole → Like (moved (forces condition at) before sub stand rewriting) next) →
-    SoFar condition rows next subs standing rewritings (at + 1)
-so_far-next condition rows whole next subs standing rewritings at sub stand rewriting h g k e f d so step =
+    SoFar origin condition rows whole subs standing rewritings at →
+    ((before : Query) → Like before whole → Like (moved origin (forces condition at) before sub stand rewriting) next) →
+    SoFar origin condition rows next subs standing rewritings (at + 1)
+so_far-next origin condition rows whole next subs standing rewritings at sub stand rewriting h g k e f d so step =
     let following : suc at ≡ at + 1 = omega arith in
-    let reached = moved (forces condition at) so.reached sub stand rewriting in
+    let reached = moved origin (forces condition at) so.reached sub stand rewriting in
     record {
       reached = reached;
       like = step so.reached so.like;
       same =
-          ap (λ n. all_moved condition n reached (drop (at + 1) subs) (drop (at + 1) standing) (drop (at + 1) rewritings)) (sym following)
-          ∙ sym (λ i. all_moved condition at so.reached (dropped subs at sub h e i) (dropped standing at stand g f i) (dropped rewritings at rewriting k d i))
+          ap (λ n. all_moved origin condition n reached (drop (at + 1) subs) (drop (at + 1) standing) (drop (at + 1) rewritings)) (sym following)
+          ∙ sym (λ i. all_moved origin condition at so.reached (dropped subs at sub h e i) (dropped standing at stand g f i) (dropped rewritings at rewriting k d i))
           ∙ so.same;
     }
 
-pub so_far-last : (condition : Expr) (rows whole : Query) (subs standing : List Sublink) (rewritings : List Query) (at : ℕ) → length subs ≤ at →
-    SoFar condition rows whole subs standing rewritings at → Like (all_moved condition 0 rows subs standing rewritings) whole
-so_far-last condition rows whole subs standing rewritings at far so =
+pub so_far-last : (origin : Origin) (condition : Expr) (rows whole : Query) (subs standing : List Sublink) (rewritings : List Query) (at : ℕ) → length subs ≤ at →
+    SoFar origin condition rows whole subs standing rewritings at → Like (all_moved origin condition 0 rows subs standing rewritings) whole
+so_far-last origin condition rows whole subs standing rewritings at far so =
     subst (λ q. Like q whole)
-    (ap (λ rest. all_moved condition at so.reached rest (drop at standing) (drop at rewritings)) (sym (drop_all at subs far)) ∙ so.same) so.like
+    (ap (λ rest. all_moved origin condition at so.reached rest (drop at standing) (drop at rewritings)) (sym (drop_all at subs far)) ∙ so.same) so.like
 
 -- ---- as many, and one of each
 
-pub traced-length : (subs : List Sublink) (rewritings : List Query) → SubsTraced subs rewritings → length subs ≡ length rewritings
-traced-length [] [] s = refl
-traced-length [] (p ∷ ps) s = absurd s
-traced-length (sub ∷ subs) [] s = absurd s
-traced-length (sub ∷ subs) (p ∷ ps) s = ap suc (traced-length subs ps s.1)
+pub from-length : (origin : Origin) (subs : List Sublink) (rewritings : List Query) → SubsFrom origin subs rewritings → length subs ≡ length rewritings
+from-length origin [] [] s = refl
+from-length origin [] (p ∷ ps) s = absurd s
+from-length origin (sub ∷ subs) [] s = absurd s
+from-length origin (sub ∷ subs) (p ∷ ps) s = ap suc (from-length origin subs ps s.1)
 
 pub stand-at : (subs standing : List Sublink) (at : ℕ) (sub stand : Sublink) → SubsStand subs standing → at < length subs → SubStands (get_or subs at sub) (get_or standing at stand)
 stand-at [] standing at sub stand s h = absurd (omega (arith, h))
@@ -121,18 +124,25 @@ stand-at (first ∷ subs) [] at sub stand s h = absurd s
 stand-at (first ∷ subs) (other ∷ standing) zero sub stand s h = s.0
 stand-at (first ∷ subs) (other ∷ standing) (suc at) sub stand s h = stand-at subs standing at sub stand s.1 (omega (arith, h))
 
-pub traced-at : (subs : List Sublink) (rewritings : List Query) (at : ℕ) (sub : Sublink) (rewriting : Query) → SubsTraced subs rewritings → at < length subs →
-    IsRewrite (traced_of (get_or subs at sub)) (get_or rewritings at rewriting)
-traced-at [] rewritings at sub rewriting s h = absurd (omega (arith, h))
-traced-at (first ∷ subs) [] at sub rewriting s h = absurd s
-traced-at (first ∷ subs) (p ∷ ps) zero sub rewriting s h = s.0
-traced-at (first ∷ subs) (p ∷ ps) (suc at) sub rewriting s h = traced-at subs ps at sub rewriting s.1 (omega (arith, h))
+pub from-at : (origin : Origin) (subs : List Sublink) (rewritings : List Query) (at : ℕ) (sub : Sublink) (rewriting : Query) → SubsFrom origin subs rewritings →
+    at < length subs → IsRewrite (query_from origin (get_or subs at sub)) (get_or rewritings at rewriting)
+from-at origin [] rewritings at sub rewriting s h = absurd (omega (arith, h))
+from-at origin (first ∷ subs) [] at sub rewriting s h = absurd s
+from-at origin (first ∷ subs) (p ∷ ps) zero sub rewriting s h = s.0
+from-at origin (first ∷ subs) (p ∷ ps) (suc at) sub rewriting s h = from-at origin subs ps at sub rewriting s.1 (omega (arith, h))
+
+-- rewritings of the sublinks' own queries
+pub from-rewritten : (subs : List Sublink) (rewritings : List Query) → SubsRewritten subs rewritings → SubsFrom Own subs rewritings
+from-rewritten [] [] s = tt
+from-rewritten [] (p ∷ ps) s = absurd s
+from-rewritten (sub ∷ subs) [] s = absurd s
+from-rewritten (sub ∷ subs) (p ∷ ps) s = (s.0, from-rewritten subs ps s.1)
 
 -- ---- by what contributes
 
-pub moved-as : (sub stand : Sublink) (r : Query) (known : Option Truth) (whole p : Query) (share : Share) → share_of sub.kind known ≡ share →
-    Like (moved_by share (traced_of sub) whole stand r) p → Like (moved known whole sub stand r) p
-moved-as sub stand r known whole p share e l = subst (λ share. Like (moved_by share (traced_of sub) whole stand r) p) (sym e) l
+pub moved-as : (origin : Origin) (sub stand : Sublink) (r : Query) (known : Option Truth) (whole p : Query) (share : Share) → share_of sub.kind known ≡ share →
+    Like (moved_by share (query_from origin sub) whole stand r) p → Like (moved origin known whole sub stand r) p
+moved-as origin sub stand r known whole p share e l = subst (λ share. Like (moved_by share (query_from origin sub) whole stand r) p) (sym e) l
 
 -- NULLs of the same kinds beside rows that stand for others
 pub nulls-like : (whole rows : Query) → Like whole rows → (kinds : List Kind) → Like (beside_nulls whole kinds) (beside_nulls rows kinds)

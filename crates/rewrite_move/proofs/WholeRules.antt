@@ -14,10 +14,12 @@ use Rattle.query_laws.specs.Standing.{SubsStand}
 use Rattle.rewrite_core.proofs.Itself.{stands-itself}
 use Rattle.rewrite_move.proofs.LikeQueries.{like-itself, like-answer_columns, rewrite-along}
 use Rattle.rewrite_move.proofs.MovedSteps.{filter-moved, project-moved}
-use Rattle.rewrite_move.specs.Moved.{Like, SubsTraced, all_moved}
+use Rattle.rewrite_move.specs.Moved.{Like, SubsFrom, all_moved}
+use Rattle.rewrite_move.specs.declared.below.Origin.{Origin}
 use Rattle.rewrite_sublink.specs.Candidates.{answer_columns, beside_row}
 
-module _ (q r : Query) (given : IsRewrite q r) (subs standing : List Sublink) (rewritings : List Query) (stand : SubsStand subs standing) (traced : SubsTraced subs rewritings) where
+module _ (origin : Origin) (q r : Query) (given : IsRewrite q r) (subs standing : List Sublink) (rewritings : List Query) (stand : SubsStand subs standing)
+    (of_subs : SubsFrom origin subs rewritings) where
   pub own-rows-like : (condition : Expr) → Like (Filter r condition standing) (Filter r condition standing)
   own-rows-like condition =
       like-itself (Filter r condition standing) (stands-Filter r r (stands-itself r given.plain) condition condition (same-itself condition) subs standing stand).plain
@@ -27,16 +29,16 @@ module _ (q r : Query) (given : IsRewrite q r) (subs standing : List Sublink) (r
       like-itself (Project r (beside_row r items) standing)
       (stands-Project r r (stands-itself r given.plain) (beside_row r items) (beside_row r items) (items-themselves (beside_row r items)) subs standing stand).plain
 
-  pub filter-rewrites : (condition : Expr) (p : Query) → Like (all_moved condition 0 (Filter r condition standing) subs standing rewritings) p → IsRewrite (Filter q condition subs) p
+  pub filter-rewrites : (condition : Expr) (p : Query) → Like (all_moved origin condition 0 (Filter r condition standing) subs standing rewritings) p → IsRewrite (Filter q condition subs) p
   filter-rewrites condition p l =
-      rewrite-along (Filter q condition subs) (all_moved condition 0 (Filter r condition standing) subs standing rewritings) p
-      (filter-moved q r condition subs standing rewritings given stand traced) l.stands
+      rewrite-along (Filter q condition subs) (all_moved origin condition 0 (Filter r condition standing) subs standing rewritings) p
+      (filter-moved origin q r condition subs standing rewritings given stand of_subs) l.stands
 
-  pub project-rewrites : (items : List Item) (p : Query) → Like (all_moved always 0 (Project r (beside_row r items) standing) subs standing rewritings) p →
+  pub project-rewrites : (items : List Item) (p : Query) → Like (all_moved origin always 0 (Project r (beside_row r items) standing) subs standing rewritings) p →
       IsRewrite (Project q items subs) (answer_columns p (width_of q) (width_of r) (length items))
   project-rewrites items p l =
       rewrite-along (Project q items subs)
-      (answer_columns (all_moved always 0 (Project r (beside_row r items) standing) subs standing rewritings) (width_of q) (width_of r) (length items))
+      (answer_columns (all_moved origin always 0 (Project r (beside_row r items) standing) subs standing rewritings) (width_of q) (width_of r) (length items))
       (answer_columns p (width_of q) (width_of r) (length items))
-      (project-moved q r items subs standing rewritings given stand traced)
-      (like-answer_columns (all_moved always 0 (Project r (beside_row r items) standing) subs standing rewritings) p l (width_of q) (width_of r) (length items)).stands
+      (project-moved origin q r items subs standing rewritings given stand of_subs)
+      (like-answer_columns (all_moved origin always 0 (Project r (beside_row r items) standing) subs standing rewritings) p l (width_of q) (width_of r) (length items)).stands

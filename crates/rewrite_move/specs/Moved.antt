@@ -1,4 +1,5 @@
--- Rows beside what sublinks contribute, where for each a rewriting of what is traced for it is given: under each row its provenance.
+-- Rows beside what sublinks contribute, where for each a rewriting of its query is given, or of what is traced for it: under each row its
+-- provenance.
 use Rattle.std.specs.Prelude.{◌≡◌, ⊤, ℕ, suc, ◌-◌, List, [], ◌∷◌, map, Option, Some, None}
 use Rattle.std.specs.List.{range_with_len}
 use Rattle.null_logic.specs.declared.truth.Truth.{Truth}
@@ -20,7 +21,9 @@ use Rattle.rewrite_move.specs.ForcedTruths.{forces}
 use Rattle.rewrite_move.specs.Shares.{share_of}
 use Rattle.rewrite_move.specs.declared.share.Share.{Share}
 use Rattle.rewrite_move.specs.declared.share.Share.TheVariants.{NoRow, AllRows, MatchingRows, ByValue}
-use Rattle.rewrite_move.specs.Traced.{traced_of}
+use Rattle.rewrite_move.specs.Traced.{query_from}
+use Rattle.rewrite_move.specs.declared.below.Origin.{Origin}
+use Rattle.rewrite_move.specs.declared.below.Origin.TheVariants.{Traced}
 use Rattle.rewrite_sublink.specs.Candidates.{beside_row}
 
 -- ---- no row contributes
@@ -58,7 +61,7 @@ matched choice (Some operand) rows sub rewriting = matching_beside choice operan
 
 -- ---- one sublink, and each in turn
 
--- by what contributes, of a sublink for which that query is traced
+-- by what contributes, where the rewriting is one of that query
 abbrev pub moved_by : Share → Query → Query → Sublink → Query → Query
 moved_by NoRow query rows standing rewriting = beside_nulls rows (provenance_kinds rewriting (width_of query))
 moved_by AllRows query rows standing rewriting = beside rows (provenance_of rewriting (width_of query))
@@ -66,23 +69,27 @@ moved_by (MatchingRows choice) query rows standing rewriting = matched choice st
 moved_by ByValue query rows standing rewriting = contributed rows standing rewriting
 
 -- of one sublink, of which that truth is known on the rows
-abbrev pub moved : Option Truth → Query → (sub standing : Sublink) → Query → Query
-moved known rows sub standing rewriting = moved_by (share_of sub.kind known) (traced_of sub) rows standing rewriting
+abbrev pub moved : Origin → Option Truth → Query → (sub standing : Sublink) → Query → Query
+moved origin known rows sub standing rewriting = moved_by (share_of sub.kind known) (query_from origin sub) rows standing rewriting
 
 -- of each in turn, the first one having that number, where the condition is true of the rows
-abbrev pub all_moved : Expr → ℕ → Query → (subs standing : List Sublink) → List Query → Query
-all_moved condition at rows [] standing rewritings = rows
-all_moved condition at rows (sub ∷ subs) [] rewritings = rows
-all_moved condition at rows (sub ∷ subs) (stand ∷ standing) [] = rows
-all_moved condition at rows (sub ∷ subs) (stand ∷ standing) (rewriting ∷ rewritings) =
-    all_moved condition (suc at) (moved (forces condition at) rows sub stand rewriting) subs standing rewritings
+abbrev pub all_moved : Origin → Expr → ℕ → Query → (subs standing : List Sublink) → List Query → Query
+all_moved origin condition at rows [] standing rewritings = rows
+all_moved origin condition at rows (sub ∷ subs) [] rewritings = rows
+all_moved origin condition at rows (sub ∷ subs) (stand ∷ standing) [] = rows
+all_moved origin condition at rows (sub ∷ subs) (stand ∷ standing) (rewriting ∷ rewritings) =
+    all_moved origin condition (suc at) (moved origin (forces condition at) rows sub stand rewriting) subs standing rewritings
 
--- each query is a rewriting of what is traced for its sublink, one by one
+-- each query is a rewriting of that query of its sublink, one by one
+abbrev pub SubsFrom : Origin → List Sublink → List Query → Type 0
+SubsFrom origin [] [] = ⊤
+SubsFrom origin [] (p ∷ ps) = ⊥
+SubsFrom origin (sub ∷ subs) [] = ⊥
+SubsFrom origin (sub ∷ subs) (p ∷ ps) = IsRewrite (query_from origin sub) p × SubsFrom origin subs ps
+
+-- of what is traced for it
 abbrev pub SubsTraced : List Sublink → List Query → Type 0
-SubsTraced [] [] = ⊤
-SubsTraced [] (p ∷ ps) = ⊥
-SubsTraced (sub ∷ subs) [] = ⊥
-SubsTraced (sub ∷ subs) (p ∷ ps) = IsRewrite (traced_of sub) p × SubsTraced subs ps
+SubsTraced subs rewritings = SubsFrom Traced subs rewritings
 
 -- p stands for q, has its columns also where q isn't well formed, and no open sublink where q has none
 pub record Like (q p : Query) : Type 0 where

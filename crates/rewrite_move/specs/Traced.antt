@@ -8,6 +8,8 @@ use Rattle.bag_algebra.specs.declared.query.Query.TheVariants.{Table, Single}
 use Rattle.bag_algebra.specs.declared.query.SubKind.{SubKind}
 use Rattle.bag_algebra.specs.declared.query.SubKind.TheVariants.{Exists, Any, All, Scalar}
 use Rattle.bag_algebra.specs.declared.query.Sublink.{Sublink}
+use Rattle.rewrite_move.specs.declared.below.Origin.{Origin}
+use Rattle.rewrite_move.specs.declared.below.Origin.TheVariants.{Own, Traced}
 
 -- the query below the projections without sublinks, the DISTINCTs and the groups on its top
 abbrev pub below_groups : Query → Query
@@ -36,7 +38,12 @@ below_by Scalar query = below_groups query
 abbrev pub traced_of : Sublink → Query
 traced_of sub = below_by sub.kind sub.query
 
--- A sublink with the same contributions over that query. A scalar one is an EXISTS there, since more rows may stand below a group than
+-- the query of a sublink of which a rewriting is given
+abbrev pub query_from : Origin → Sublink → Query
+query_from Own sub = sub.query
+query_from Traced sub = traced_of sub
+
+-- A sublink with the same contributions over what is traced. A scalar one is an EXISTS there, since more rows may stand below a group than
 -- one; what ANY and ALL compare is the query's own column, so they stay.
 abbrev pub traced_by : SubKind → Sublink → Sublink
 traced_by Exists sub = record { kind = Exists; tested = None; query = below_groups sub.query }

@@ -1,9 +1,28 @@
 //! What is traced of a sublink.
 ghost use Rattle.std.specs.Prelude.{◌≡◌, ◌≤◌};
 ghost use Rattle.bag_algebra.specs.Measures.{size_of};
-ghost use Rattle.rewrite_move.specs.Traced.{below_groups, traced_of};
+ghost use Rattle.rewrite_move.specs.Traced.{below_groups, query_from, traced_of};
 
 use bag_algebra::{Query, SubKind, Sublink};
+
+/// Of which query of each sublink a rewriting is given.
+#[derive(Clone, Copy)]
+pub(crate) enum Origin {
+    /// Of its own.
+    Own,
+    /// Of the one that is traced for it.
+    Traced,
+}
+
+/// That query of a sublink. It takes no memory.
+pub(crate) fn query_from(origin: Origin, sub: &Sublink) -> &Query
+    ensures { result.now ≡ query_from origin sub.now }
+{
+    match origin {
+        Origin::Own => &sub.query,
+        Origin::Traced => traced(sub),
+    }
+}
 
 /// The query of which a sublink's contributions are those of an EXISTS: its own without the projections without sublinks, the DISTINCTs and
 /// the groups on top, where every row contributes; that of ANY and ALL is its own. It has no more operators, and takes no memory.

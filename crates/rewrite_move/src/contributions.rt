@@ -6,11 +6,11 @@ ghost use Rattle.bag_algebra.specs.declared.query.Query.{Query};
 ghost use Rattle.contribution.specs.Conjunctions.{always};
 ghost use Rattle.lateral_rewrite.specs.Dependent.{chosen_beside, contributed, provenance_of};
 ghost use Rattle.query_laws.specs.Standing.{SubStands, SubsStand};
-ghost use Rattle.rewrite_move.specs.Moved.{Like, SubsTraced, all_moved, matched, moved};
-ghost use Rattle.rewrite_move.specs.Traced.{traced_of};
+ghost use Rattle.rewrite_move.specs.Moved.{Like, SubsFrom, all_moved, matched, moved};
+ghost use Rattle.rewrite_move.specs.Traced.{query_from};
 ghost use Rattle.query_laws.specs.spines.Spines.{IsBeside, IsJoined};
 
-use crate::below::traced;
+use crate::below::{Origin, query_from};
 use crate::forced::forces;
 use crate::known::{beside_matching, beside_nothing};
 use crate::share::{Share, share_of};
@@ -23,10 +23,11 @@ use query_laws::beside;
 use rewrite_core::columns_kept;
 use std::alloc::Global;
 
-/// The rows, and for each sublink in turn its contributions, from a rewriting of what is traced for it. The condition is true of each
-/// of the rows, and the sublinks' numbers are those that it has for them.
+/// The rows, and for each sublink in turn its contributions, from a rewriting of its query or of what is traced for it. The condition is
+/// true of each of the rows, and the sublinks' numbers are those that it has for them.
 pub(crate) fn with_contributions(
     alloc: Global,
+    origin: Origin,
     rows: Query,
     condition: &Expr,
     subs: &[Sublink],
@@ -35,15 +36,16 @@ pub(crate) fn with_contributions(
 ) -> Result<Query, NoMemory>
     requires plain { Like rows rows }
     requires standing { SubsStand subs.now standing.now }
-    requires traced { SubsTraced subs.now rewritings.now }
+    requires given { SubsFrom origin subs.now rewritings.now }
     ensures { IfOk result (λ p.
-        Like (all_moved condition.now 0 rows subs.now standing.now rewritings.now) p) }
+        Like (all_moved origin condition.now 0 rows subs.now standing.now rewritings.now) p) }
 {
     let mut whole = rows;
     for at in 0..subs.len() {
         let known = forces(condition, at);
         whole = with_contribution(
             alloc,
+            origin,
             whole,
             known,
             &subs[at],
@@ -57,6 +59,7 @@ pub(crate) fn with_contributions(
 /// Likewise of rows of which no condition is known to be true.
 pub(crate) fn with_all_contributions(
     alloc: Global,
+    origin: Origin,
     rows: Query,
     subs: &[Sublink],
     standing: &[Sublink],
@@ -64,16 +67,18 @@ pub(crate) fn with_all_contributions(
 ) -> Result<Query, NoMemory>
     requires plain { Like rows rows }
     requires standing { SubsStand subs.now standing.now }
-    requires traced { SubsTraced subs.now rewritings.now }
-    ensures { IfOk result (λ p. Like (all_moved always 0 rows subs.now standing.now rewritings.now) p) }
+    requires given { SubsFrom origin subs.now rewritings.now }
+    ensures { IfOk result (λ p.
+        Like (all_moved origin always 0 rows subs.now standing.now rewritings.now) p) }
 {
     let condition = always();
-    with_contributions(alloc, rows, &condition, subs, standing, rewritings)
+    with_contributions(alloc, origin, rows, &condition, subs, standing, rewritings)
 }
 
 /// The rows beside the contributions of a sublink that has this truth on each of them, if one is known.
 fn with_contribution(
     alloc: Global,
+    origin: Origin,
     rows: Query,
     known: Option<Truth>,
     sub: &Sublink,
@@ -81,13 +86,13 @@ fn with_contribution(
     rewriting: &Query,
 ) -> Result<Query, NoMemory>
     requires standing { SubStands sub.now standing.now }
-    requires traced { IsRewrite (traced_of sub.now) rewriting.now }
+    requires given { IsRewrite (query_from origin sub.now) rewriting.now }
     ensures { (whole : Query) → Like whole rows →
-        IfOk result (λ p. Like (moved known whole sub.now standing.now rewriting.now) p) }
+        IfOk result (λ p. Like (moved origin known whole sub.now standing.now rewriting.now) p) }
 {
     match share_of(sub.kind, known) {
-        Share::NoRow => beside_nothing(alloc, rows, traced(sub), rewriting),
-        Share::AllRows => beside_all(alloc, rows, traced(sub), rewriting),
+        Share::NoRow => beside_nothing(alloc, rows, query_from(origin, sub), rewriting),
+        Share::AllRows => beside_all(alloc, rows, query_from(origin, sub), rewriting),
         Share::MatchingRows(choice) => beside_matched(alloc, rows, standing, choice, rewriting),
         Share::ByValue => beside_compared(alloc, rows, standing, rewriting),
     }

@@ -12,4 +12,4 @@ mod share;
 
 pub use below::traced;
 pub use laws::{traced_sublinks_contribute_the_same, what_stands_for_a_rewriting_is_one};
-pub use rules::{filter_moved, project_moved};
+pub use rules::{filter_moved, filter_traced, project_moved, project_traced};

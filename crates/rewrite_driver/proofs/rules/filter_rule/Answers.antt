@@ -26,16 +26,16 @@ returns-then-is_empty c =
       none_open = λ h. let parts = parts-Filter c.args.input.now c.args.condition.now c.args.subs.now h in n (given.none_open parts.0);
     })
 
-pub filter_moved-requires-clause-input : goal.filter_moved-requires-clause-input
-filter_moved-requires-clause-input c =
+pub filter_traced-requires-clause-input : goal.filter_traced-requires-clause-input
+filter_traced-requires-clause-input c =
     (opened (λ (r : Query). RewritesClosed c.args.input.now r) c.args.rewriting _ c.in_ok-rewriting.ensures.first_was c.requires.rewritten).rewrites
 
-pub filter_moved-requires-clause-standing : goal.filter_moved-requires-clause-standing
-filter_moved-requires-clause-standing c =
+pub filter_traced-requires-clause-standing : goal.filter_traced-requires-clause-standing
+filter_traced-requires-clause-standing c =
     rw c.as_slice.ensures ((opened (λ (others : List Sublink). SubsStandClosed c.args.subs.now others) c.args.plain _ c.in_ok-rewriting.ensures.second_was c.requires.subs_stand).stand)
 
-pub filter_moved-requires-clause-traced : goal.filter_moved-requires-clause-traced
-filter_moved-requires-clause-traced c =
+pub filter_traced-requires-clause-traced : goal.filter_traced-requires-clause-traced
+filter_traced-requires-clause-traced c =
     (opened (λ (rs : List Query). SubsTracedClosed c.args.subs.now rs) c.args.rewritings _ c.in_ok-rewriting.ensures.third_was c.requires.subs_rewritten).traced
 
 pub returns : goal.returns
@@ -43,7 +43,7 @@ returns c =
     let given = opened (λ (r : Query). RewritesClosed c.args.input.now r) c.args.rewriting _ c.in_ok-rewriting.ensures.first_was c.requires.rewritten in
     let stand = opened (λ (others : List Sublink). SubsStandClosed c.args.subs.now others) c.args.plain _ c.in_ok-rewriting.ensures.second_was c.requires.subs_stand in
     let traced = opened (λ (rs : List Query). SubsTracedClosed c.args.subs.now rs) c.args.rewritings _ c.in_ok-rewriting.ensures.third_was c.requires.subs_rewritten in
-    both_made _ _ (λ p. RewritesClosed (Filter c.args.input.now c.args.condition.now c.args.subs.now) p) c.filter_moved.result c.filter_moved.ensures.rewrites c.filter_moved.ensures.none_open
+    both_made _ _ (λ p. RewritesClosed (Filter c.args.input.now c.args.condition.now c.args.subs.now) p) c.filter_traced.result c.filter_traced.ensures.rewrites c.filter_traced.ensures.none_open
     (λ p r n. record {
       rewrites = r;
       none_open = λ h.

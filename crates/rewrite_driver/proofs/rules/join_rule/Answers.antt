@@ -33,20 +33,20 @@ returns-then-is_empty c =
           n (left.none_open parts.0) (right.none_open parts.1);
     })
 
-pub join_moved-requires-clause-left : goal.join_moved-requires-clause-left
-join_moved-requires-clause-left c =
+pub join_traced-requires-clause-left : goal.join_traced-requires-clause-left
+join_traced-requires-clause-left c =
     (opened (λ (r : Query). RewritesClosed c.args.left.now r) c.args.lefts _ c.in_ok-lefts.ensures.first_was c.requires.left).rewrites
 
-pub join_moved-requires-clause-right : goal.join_moved-requires-clause-right
-join_moved-requires-clause-right c =
+pub join_traced-requires-clause-right : goal.join_traced-requires-clause-right
+join_traced-requires-clause-right c =
     (opened (λ (r : Query). RewritesClosed c.args.right.now r) c.args.rights _ c.in_ok-lefts.ensures.second_was c.requires.right).rewrites
 
-pub join_moved-requires-clause-subs_stand : goal.join_moved-requires-clause-subs_stand
-join_moved-requires-clause-subs_stand c =
+pub join_traced-requires-clause-subs_stand : goal.join_traced-requires-clause-subs_stand
+join_traced-requires-clause-subs_stand c =
     rw c.as_slice.ensures ((opened (λ (others : List Sublink). SubsStandClosed c.args.subs.now others) c.args.plain _ c.in_ok-lefts.ensures.third_was c.requires.subs_stand).stand)
 
-pub join_moved-requires-clause-subs_rewritten : goal.join_moved-requires-clause-subs_rewritten
-join_moved-requires-clause-subs_rewritten c =
+pub join_traced-requires-clause-subs_rewritten : goal.join_traced-requires-clause-subs_rewritten
+join_traced-requires-clause-subs_rewritten c =
     (opened (λ (rs : List Query). SubsTracedClosed c.args.subs.now rs) c.args.rewritings _ c.in_ok-lefts.ensures.fourth_was c.requires.subs_rewritten).traced
 
 pub returns : goal.returns
@@ -55,7 +55,7 @@ returns c =
     let right = opened (λ (r : Query). RewritesClosed c.args.right.now r) c.args.rights _ c.in_ok-lefts.ensures.second_was c.requires.right in
     let stand = opened (λ (others : List Sublink). SubsStandClosed c.args.subs.now others) c.args.plain _ c.in_ok-lefts.ensures.third_was c.requires.subs_stand in
     let traced = opened (λ (rs : List Query). SubsTracedClosed c.args.subs.now rs) c.args.rewritings _ c.in_ok-lefts.ensures.fourth_was c.requires.subs_rewritten in
-    both_made _ _ (λ p. RewritesClosed (Join c.args.kind c.args.left.now c.args.right.now c.args.condition.now c.args.subs.now) p) c.join_moved.result c.join_moved.ensures.rewrites c.join_moved.ensures.none_open
+    both_made _ _ (λ p. RewritesClosed (Join c.args.kind c.args.left.now c.args.right.now c.args.condition.now c.args.subs.now) p) c.join_traced.result c.join_traced.ensures.rewrites c.join_traced.ensures.none_open
     (λ p r n. record {
       rewrites = r;
       none_open = λ h.

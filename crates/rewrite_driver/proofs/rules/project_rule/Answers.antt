@@ -26,16 +26,16 @@ returns-then-is_empty c =
       none_open = λ h. let parts = parts-Project c.args.input.now c.args.items.now c.args.subs.now h in n (given.none_open parts.0);
     })
 
-pub project_moved-requires-clause-input : goal.project_moved-requires-clause-input
-project_moved-requires-clause-input c =
+pub project_traced-requires-clause-input : goal.project_traced-requires-clause-input
+project_traced-requires-clause-input c =
     (opened (λ (r : Query). RewritesClosed c.args.input.now r) c.args.rewriting _ c.in_ok-rewriting.ensures.first_was c.requires.rewritten).rewrites
 
-pub project_moved-requires-clause-standing : goal.project_moved-requires-clause-standing
-project_moved-requires-clause-standing c =
+pub project_traced-requires-clause-standing : goal.project_traced-requires-clause-standing
+project_traced-requires-clause-standing c =
     rw c.as_slice.ensures ((opened (λ (others : List Sublink). SubsStandClosed c.args.subs.now others) c.args.plain _ c.in_ok-rewriting.ensures.second_was c.requires.subs_stand).stand)
 
-pub project_moved-requires-clause-traced : goal.project_moved-requires-clause-traced
-project_moved-requires-clause-traced c =
+pub project_traced-requires-clause-traced : goal.project_traced-requires-clause-traced
+project_traced-requires-clause-traced c =
     (opened (λ (rs : List Query). SubsTracedClosed c.args.subs.now rs) c.args.rewritings _ c.in_ok-rewriting.ensures.third_was c.requires.subs_rewritten).traced
 
 pub returns : goal.returns
@@ -43,7 +43,7 @@ returns c =
     let given = opened (λ (r : Query). RewritesClosed c.args.input.now r) c.args.rewriting _ c.in_ok-rewriting.ensures.first_was c.requires.rewritten in
     let stand = opened (λ (others : List Sublink). SubsStandClosed c.args.subs.now others) c.args.plain _ c.in_ok-rewriting.ensures.second_was c.requires.subs_stand in
     let traced = opened (λ (rs : List Query). SubsTracedClosed c.args.subs.now rs) c.args.rewritings _ c.in_ok-rewriting.ensures.third_was c.requires.subs_rewritten in
-    both_made _ _ (λ p. RewritesClosed (Project c.args.input.now c.args.items.now c.args.subs.now) p) c.project_moved.result c.project_moved.ensures.rewrites c.project_moved.ensures.none_open
+    both_made _ _ (λ p. RewritesClosed (Project c.args.input.now c.args.items.now c.args.subs.now) p) c.project_traced.result c.project_traced.ensures.rewrites c.project_traced.ensures.none_open
     (λ p r n. record {
       rewrites = r;
       none_open = λ h.
