@@ -1,6 +1,6 @@
 //! The rules that put beside a node's rows what its sublink contributes (`rewrite_move`), called as they are.
 use crate::answers::{Case, Field, NOT_GREATER};
-use crate::rewritten::{inside_traced, with_rewriting};
+use crate::rewritten::{inside, with_rewriting};
 use crate::trees::{column_compared, first_column_and_sublink, first_table, second_table};
 use bag_algebra::{Expr, Query, SubKind};
 use null_logic::Compare;
@@ -13,7 +13,7 @@ use std::test::Fail;
 fn filter_query(alloc: Global) -> Result<Query, NoMemory> {
     let rows = with_rewriting(alloc, first_table(alloc));
     let equal = column_compared(SubKind::Any(Compare::Equal), 0, second_table(alloc));
-    let inner = inside_traced(alloc, equal);
+    let inner = inside(alloc, equal);
     let (rows, inner) = both(rows, inner)?;
     let (query, rewriting) = rows;
     let (subs, standing, rewritings) = inner;
@@ -36,7 +36,7 @@ fn filter_query(alloc: Global) -> Result<Query, NoMemory> {
 fn project_query(alloc: Global) -> Result<Query, NoMemory> {
     let rows = with_rewriting(alloc, first_table(alloc));
     let greater = column_compared(SubKind::All(Compare::Greater), 0, second_table(alloc));
-    let inner = inside_traced(alloc, greater);
+    let inner = inside(alloc, greater);
     let items = first_column_and_sublink(alloc);
     let (rows, inner, items) = three(rows, inner, items)?;
     let (query, rewriting) = rows;

@@ -3,7 +3,6 @@ ghost use Rattle.std.specs.Prelude.{◌≡◌, [], ◌∷◌, Ok, IfOk, IsTrue};
 ghost use Rattle.bag_algebra.specs.Rewriting.{IsRewrite};
 ghost use Rattle.bag_algebra.specs.built.Scopes.{all_over_tables};
 ghost use Rattle.query_laws.specs.Standing.{SubsStand};
-ghost use Rattle.rewrite_move.specs.Moved.{SubsTraced};
 ghost use Rattle.rewrite_sublink.specs.SubRewritings.{SubsRewritten};
 
 use crate::trees::only_item;
@@ -11,7 +10,6 @@ use bag_algebra::{Query, Sublink, over_tables};
 use contribution::sublink_over;
 use perm_values::{Copyable, List, NoMemory, both, three};
 use rewrite_driver::eliminate;
-use rewrite_move::traced;
 use std::alloc::Global;
 
 /// A rewriting of the query: what stands for its PROVENANCE.
@@ -51,14 +49,6 @@ fn query_rewritten(alloc: Global, sub: &Sublink) -> Result<List<Query>, NoMemory
     ensures { IfOk result (λ rewritings. SubsRewritten (sub.now ∷ []) rewritings) }
 {
     let rewriting = rewriting_of(alloc, &sub.query)?;
-    only_item(alloc, rewriting)
-}
-
-/// A rewriting of what is traced for the sublink.
-fn traced_rewritten(alloc: Global, sub: &Sublink) -> Result<List<Query>, NoMemory>
-    ensures { IfOk result (λ rewritings. SubsTraced (sub.now ∷ []) rewritings) }
-{
-    let rewriting = rewriting_of(alloc, traced(sub))?;
     only_item(alloc, rewriting)
 }
 
@@ -104,18 +94,5 @@ pub(crate) fn inside_tables(
         return Err(NoMemory);
     }
     let rewritings = query_rewritten(alloc, &sub);
-    whole(alloc, sub, rewritings)
-}
-
-/// The sublink with a rewriting of what is traced for it.
-pub(crate) fn inside_traced(
-    alloc: Global,
-    sub: Result<Sublink, NoMemory>,
-) -> Result<Inside, NoMemory>
-    ensures stands { IfOk result (λ s. SubsStand s.0 s.1) }
-    ensures traced { IfOk result (λ s. SubsTraced s.0 s.2) }
-{
-    let sub = sub?;
-    let rewritings = traced_rewritten(alloc, &sub);
     whole(alloc, sub, rewritings)
 }
