@@ -1,3 +1,4 @@
+pub mod Altering
 pub mod Begun
 pub mod Besides
 pub mod Breaks
@@ -19,8 +20,10 @@ pub mod Misspelling
 pub mod Queries
 pub mod Reasons
 pub mod Refusing
+pub mod Replacing
 pub mod Running
 pub mod Runs
+pub mod Showing
 pub mod Sources
 pub mod Stepping
 pub mod Storing

@@ -11,7 +11,7 @@ mod steps;
 mod stopping;
 mod words;
 
-pub use generation::{a_generated_text_is_a_script, generated};
+pub use generation::{a_generated_text_is_a_script, generate};
 pub use headline::{
     a_query_has_the_word_or_not, a_query_is_refused_or_asks, a_run_is_the_course_of_its_statements,
     every_run_is_told_by_the_headline, the_contents_of_a_run_are_sound,

@@ -5,7 +5,7 @@
 //! |---|---|---|
 //! | what the words ask for | `read_words` in `perm` | `request_of` |
 //! | the bytes of the script's file | `read_all` in `run_named` | `CanBe` |
-//! | or a script that is made | `generated` in `run_generated` | `generated` |
+//! | or a script that is made | `generate` in `run_generated` | `generated` |
 //! | their tree | `script_of` in `run_script` | `IsScriptOf`, `IsMisspelled` |
 //! | one statement after another | `Session::step` in `run_statements` | `RunsFrom`, `asked` |
 //! | what its names name | `resolve`, below `Session::step` | `breaks`, `resolved` |
@@ -30,7 +30,7 @@ ghost use Rattle.perm_engine.specs.meaning.Ends.{Completes, EndsOne, EndsSome, o
 ghost use Rattle.perm_engine.specs.meaning.Run.{Runs, RunsFrom, RunsNamed, RunsScript, script_files, IsWhole, IsSteady, IsOfScript};
 
 use crate::meaning::{
-    SCRIPT_LIMIT, Status, Wanted, every_run_is_told_by_the_headline, finish, generated, read_words,
+    SCRIPT_LIMIT, Status, Wanted, every_run_is_told_by_the_headline, finish, generate, read_words,
     refuse, script_of, stop,
 };
 use crate::session::Session;
@@ -122,7 +122,7 @@ fn run_named<F: Files, K: Sink>(alloc: Global, name: &Chars, files: &mut F, out:
 }
 
 /// Runs the script that is made from the number.
-fn run_generated<F: Files, K: Sink>(alloc: Global, rows: u64, files: &mut F, out: &mut K) -> Status
+fn run_generated<F: Files, K: Sink>(alloc: Global, rows: u32, files: &mut F, out: &mut K) -> Status
     ensures ends { let met = seen (F.told files.old) (F.told files.new) in
         EndsOne 0 (can_be met) (RunsScript (can_be met) (generated rows))
         (over (K.told out.old) (K.told out.new)) met result }
@@ -132,7 +132,7 @@ fn run_generated<F: Files, K: Sink>(alloc: Global, rows: u64, files: &mut F, out
     ensures steady { IsSteady result → (F.told files.new).faults ≡ (F.told files.old).faults }
     ensures held { (F.told files.new).held ≡ (F.told files.old).held }
 {
-    match generated(alloc, rows) {
+    match generate(alloc, rows) {
         Ok(text) => run_script(alloc, text.as_slice(), files, out),
         Err(NoMemory) => Status::NoMemory,
     }

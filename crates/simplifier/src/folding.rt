@@ -20,7 +20,7 @@ use std::alloc::Global;
 /// The query over folded expressions, without its sources, filters on TRUE, DISTINCTs over what has no row twice, and
 /// projections of which an EXISTS reads nothing. It fails only for want of memory.
 #[cycle(folded_query)]
-pub(crate) fn folded_query(alloc: Global, query: &Query) -> Result<Query, NoMemory>
+pub fn folded_query(alloc: Global, query: &Query) -> Result<Query, NoMemory>
     requires { IsTrue (is_plain query.now) }
     ensures stands { IfOk result (λ p. Stands query.now p) }
     ensures simple { IfOk result (λ p. is_simple p ≡ true) }

@@ -3,14 +3,16 @@ ghost use Rattle.std.specs.Prelude.{◌≡◌, List as ItemsOf, IfOk, IsTrue};
 ghost use Rattle.bag_algebra.specs.Rewriting.{Stands};
 ghost use Rattle.bag_algebra.specs.declared.expr.Expr.{Expr};
 ghost use Rattle.bag_algebra.specs.declared.expr.Expr.TheVariants.{Sub};
-ghost use Rattle.bag_algebra.specs.declared.query.Query.TheVariants.{Filter};
+ghost use Rattle.bag_algebra.specs.declared.query.Query.TheVariants.{Filter, Join};
 ghost use Rattle.bag_algebra.specs.declared.query.Query.{Query};
 ghost use Rattle.bag_algebra.specs.declared.query.Sublink.{Sublink};
 ghost use Rattle.simplifier.specs.Forced.{FindsOn, IsForced, SubFinds};
 
 use crate::asked::{is_on, may_ask};
 use crate::below::spine_below;
-use bag_algebra::{Expr, JoinKind, Query, Sublink, exact_width, faultless};
+use bag_algebra::{
+    Expr, JoinKind, JoinParts, Projection, Query, Selection, Sublink, exact_width, faultless,
+};
 use perm_values::{List, NoMemory};
 use std::alloc::Global;
 
@@ -19,16 +21,16 @@ use std::alloc::Global;
 pub(crate) fn forced(alloc: Global, query: Result<Query, NoMemory>) -> Result<Query, NoMemory>
     ensures { (q : Query) → IfOk query (λ b. Stands q b) → IfOk result (λ p. Stands q p) }
 {
-    match query? {
-        Query::Project { input, items, subs } => {
-            let Ok(rows) = joined(alloc, input.into_inner()) else {
+    match query?.into_projection() {
+        Ok(Projection { input, items, subs }) => {
+            let Ok(rows) = joined(alloc, input) else {
                 drop(items);
                 drop(subs);
                 return Err(NoMemory);
             };
             Query::project(alloc, rows, items, subs)
         }
-        other => joined(alloc, other),
+        Err(other) => joined(alloc, other),
     }
 }
 
@@ -36,43 +38,36 @@ pub(crate) fn forced(alloc: Global, query: Result<Query, NoMemory>) -> Result<Qu
 fn joined(alloc: Global, query: Query) -> Result<Query, NoMemory>
     ensures { (q : Query) → Stands q query → IfOk result (λ p. Stands q p) }
 {
-    match query {
-        Query::Join {
-            kind,
-            left,
-            right,
-            condition,
-            subs,
-        } => {
-            let Ok(forced) = is_forced(alloc, kind, left.get(), right.get(), &condition, &subs)
-            else {
-                drop(left);
-                drop(right);
-                drop(condition);
-                drop(subs);
-                return Err(NoMemory);
-            };
-            if forced {
-                let rows = filtered(left.into_inner());
-                return Query::join(
-                    alloc,
-                    JoinKind::Inner,
-                    rows,
-                    right.into_inner(),
-                    condition,
-                    subs,
-                );
-            }
-            Ok(Query::Join {
-                kind,
-                left,
-                right,
-                condition,
-                subs,
-            })
-        }
-        other => Ok(other),
+    match query.into_join() {
+        Ok(parts) => forced_parts(alloc, parts),
+        Err(other) => Ok(other),
     }
+}
+
+/// The same of a join's parts.
+fn forced_parts(alloc: Global, parts: JoinParts) -> Result<Query, NoMemory>
+    ensures { (q : Query) → Stands q (Join parts.kind parts.left parts.right parts.condition parts.subs) →
+        IfOk result (λ p. Stands q p) }
+{
+    let JoinParts {
+        kind,
+        left,
+        right,
+        condition,
+        subs,
+    } = parts;
+    let Ok(forced) = is_forced(alloc, kind, &left, &right, &condition, &subs) else {
+        drop(left);
+        drop(right);
+        drop(condition);
+        drop(subs);
+        return Err(NoMemory);
+    };
+    if forced {
+        let rows = filtered(left);
+        return Query::join(alloc, JoinKind::Inner, rows, right, condition, subs);
+    }
+    Query::join(alloc, kind, left, right, condition, subs)
 }
 
 /// The input of a filter.
@@ -80,9 +75,9 @@ fn filtered(query: Query) -> Query
     ensures { (input : Query) (condition : Expr) (subs : ItemsOf Sublink) →
         query ≡ Filter input condition subs → result ≡ input }
 {
-    match query {
-        Query::Filter { input, .. } => input.into_inner(),
-        other => other,
+    match query.into_selection() {
+        Ok(Selection { input, .. }) => input,
+        Err(other) => other,
     }
 }
 

@@ -11,4 +11,5 @@ mod passes;
 mod projections;
 mod raising;
 
-pub use passes::simplify;
+pub use folding::folded_query;
+pub use passes::{simplify, tests_lowered};

@@ -58,9 +58,17 @@ fn lowered_tests(alloc: Global, query: Result<Query, NoMemory>) -> Result<Query,
     ensures { (q : Query) → IfOk query (λ b. Stands q b) → IfOk result (λ p. Stands q p) }
 {
     let query = query?;
-    let simpler = under(alloc, &query, &[]);
+    let simpler = tests_lowered(alloc, &query);
     drop(query);
     simpler
+}
+
+/// A plain query that stands for the query, with its tests where they can be made first. It fails only for want of memory.
+pub fn tests_lowered(alloc: Global, query: &Query) -> Result<Query, NoMemory>
+    requires { IsTrue (is_plain query.now) }
+    ensures { IfOk result (λ p. Stands query.now p) }
+{
+    under(alloc, query, &[])
 }
 
 /// What stands for the query's rows of which all tests are true. The tests can't fault.

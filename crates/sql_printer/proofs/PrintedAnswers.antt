@@ -39,6 +39,7 @@ use Rattle.sql_printer.proofs.forms.PrintableNodes.{printable-short}
 use Rattle.sql_printer.proofs.forms.WritableQueries.{printable-writable}
 use Rattle.sql_printer.specs.answers.ReadAs.{Few, IsNamed, IsReadAs, Narrow, source_in}
 use Rattle.sql_printer.proofs.NarrowQueries.{printable-narrow, short-few}
+use Rattle.sql_printer.proofs.answers.PlainAnswers.{named-alone, names-tables, read-plain, without_views}
 
 record IsSome (kinds : List Kind) : Type 0 where
   first : Kind
@@ -73,14 +74,18 @@ module _ (reads_back : IsLaw ReadsBack) (means : IsLaw Means) (c : Contents) (ta
   written : answer_bytes tables answer.query answer.names answer.keys ≡ query_text form
   written = sym (said_is (plan.query form) ∙ answer_said tables answer.query answer.names answer.keys)
 
-  -- what a law says of the tree of this answer
-  applied : (Holds : Contents → List TableNames → Answer → QueryTree → Type 0) → IsLaw Holds → (tree : QueryTree) → IsQuery form tree
-      → Holds c tables answer tree
-  applied Holds law tree is =
+  -- what a law says of the tree of this answer, over contents that have its tables
+  applied-over : (Holds : Contents → List TableNames → Answer → QueryTree → Type 0) → IsLaw Holds → (held : Contents)
+      → EachTable (IsNamed held tables) answer.query → (tree : QueryTree) → IsQuery form tree → Holds held tables answer tree
+  applied-over Holds law held named_there tree is =
       let some = some-kinds (kinds_of answer.query) sound.some in
-      law c tables answer.query some.first some.more some.is sound.closed (printable-writable answer.query plain printable) named
+      law held tables answer.query some.first some.more some.is sound.closed (printable-writable answer.query plain printable) named_there
       (printable-narrow answer.query printable) (short-few (kinds_of answer.query) (printable-short answer.query printable)) answer.names answer.keys
       sound.named (subst (λ n. KeysWithin n answer.keys) (sym sound.named) sound.keys) tree is
+
+  applied : (Holds : Contents → List TableNames → Answer → QueryTree → Type 0) → IsLaw Holds → (tree : QueryTree) → IsQuery form tree
+      → Holds c tables answer tree
+  applied Holds law tree is = applied-over Holds law c named tree is
 
   -- what the text is: a script of the tokens of what is written, where these can stand
   abbrev pub IsScriptOfAnswer : List ℕ → Type 0
@@ -92,6 +97,7 @@ module _ (reads_back : IsLaw ReadsBack) (means : IsLaw Means) (c : Contents) (ta
       let fit = answer-fits tables characters answer.query answer.names answer.keys sound.closed printable names sound.keys in
       let ends = laid (tokens_of (plan.query form)) (all_stand (plan.query form) (query_sound form fit)) written in
       let read = ended-form form text ends in
+      let back = applied ReadsBack reads_back read.tree read.is in
       record {
         start = read.start;
         tree = read.tree;
@@ -99,6 +105,9 @@ module _ (reads_back : IsLaw ReadsBack) (means : IsLaw Means) (c : Contents) (ta
         plain = read.plain;
         front = ends.front;
         ended = ends.ended;
-        whole = (applied ReadsBack reads_back read.tree read.is).whole;
+        tables = names-tables c read.tree
+            (applied-over ReadsBack reads_back (without_views c) (named-alone c tables answer.query named) read.tree read.is).whole;
+        whole = back.whole;
+        plainly = read-plain c tables answer.query answer.names answer.keys read.tree back;
         means = applied Means means read.tree read.is;
       }

@@ -1,3 +1,4 @@
+pub mod PlainAnswers
 mod ReadAnswers
 mod ReadRows
 mod ReadTableCores

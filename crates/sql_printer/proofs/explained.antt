@@ -1,2 +1,3 @@
 mod Explained
+mod OneMoreTable
 mod ReadBack

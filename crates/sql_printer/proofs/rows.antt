@@ -1,6 +1,7 @@
 pub mod AskedNumbers
 pub mod KeyColumns
 pub mod MarkedBags
+pub mod PlainReadings
 pub mod PrintedValues
 pub mod ReadSublinks
 pub mod RelatedOutcomes

@@ -1,8 +1,7 @@
 //! Says what an answer means as SQL that people can follow.
 
+mod alone;
 mod explaining;
-mod plain;
 mod reading;
 
 pub use explaining::explain;
-pub use plain::plain_query;

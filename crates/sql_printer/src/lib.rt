@@ -13,7 +13,7 @@ mod rows;
 
 pub use answers::{a_printed_answer_is_read_back, a_printed_answer_means_the_answer};
 pub use cores::a_printed_copy_is_read_back;
-pub use explained::{explain, plain_query};
+pub use explained::explain;
 pub use expressions::{
     a_printed_expression_is_read_back, columns_are_found_by_their_printed_names,
 };

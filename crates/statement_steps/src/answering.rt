@@ -12,8 +12,8 @@ use bag_algebra::Answer;
 use csv_tables::answer_text;
 use perm_catalog::Catalog;
 use perm_values::{Bytes, Chars};
+use plain_queries::plain_query;
 use row_values::ExecError;
-use sql_printer::plain_query;
 use statement_meaning::StepRefusal;
 use std::alloc::Global;
 

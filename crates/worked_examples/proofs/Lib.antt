@@ -12,4 +12,5 @@ pub mod Refused
 pub mod ResolvedItems
 pub mod ResolvedQueries
 pub mod StoredTables
+pub mod UnexplainedTexts
 pub mod Written

@@ -38,6 +38,7 @@ use Rattle.perm_engine.specs.meaning.Scripts.{IsScriptOf, IsMisspelled}
 use Rattle.perm_engine.specs.meaning.Stops.{Stop, ToTheEnd, Misused, NoFile, LongFile, FailedFile, NoScript, At, IsFirst, script_limit}
 use Rattle.perm_engine.specs.declared.meaning.status.Status.{Status}
 use Rattle.perm_engine.specs.declared.meaning.status.Status.TheVariants as status
+use Rattle.perm_engine.proofs.meaning.Altering.{copies-rows, creates-table, creates-view, deletes-rows, drops-table, drops-view, inserts-rows}
 use Rattle.perm_engine.proofs.meaning.Besides.{answers-beside}
 use Rattle.perm_engine.proofs.meaning.Counting.{first-cause, statements-few, tokens-few}
 use Rattle.perm_engine.proofs.meaning.Courses.{course-files, course-of}
@@ -46,6 +47,7 @@ use Rattle.perm_engine.proofs.meaning.Losing.{answers-lost, lost-kept}
 use Rattle.perm_engine.proofs.meaning.Queries.{answers-rows, asks-resolved, selects}
 use Rattle.perm_engine.proofs.meaning.Refusing.{refuses-first}
 use Rattle.perm_engine.proofs.meaning.HeadlineSteps.{Keeps, contains-at, done-accepted, sound-at}
+use Rattle.perm_engine.proofs.meaning.Showing.{Stands, shown-kept, shows-fresh}
 use Rattle.perm_engine.proofs.meaning.Storing.{Freshens, stores-answer}
 use Rattle.perm_engine.proofs.meaning.words.Numbers.{same_rows, misworded≢generated}
 use Rattle.perm_engine.specs.meaning.headline.Answers.{AnswersBeside, AnswersRows}
@@ -55,7 +57,7 @@ use Rattle.perm_engine.specs.meaning.headline.Words.{LacksWord}
 
 -- ---- a statement that is accepted
 
-module _ (freshens : Freshens) (Can : List ℕ → Found → Type 0) (c after : Contents) (statement : Statement) (text : List ℕ)
+module _ (freshens : Freshens) (stands : Stands) (Can : List ℕ → Found → Type 0) (c after : Contents) (statement : Statement) (text : List ℕ)
     (sound : IsSound c) (regular : RegularStatement statement) (turn : TakesTurn Can (asked c statement) c after (Ok text)) where
   rows-plain : breaks c statement ≡ [] → (tree : QueryTree) → statement.body ≡ st.Select tree → LacksWord tree.body → AnswersRows c statement text
   rows-plain whole tree is lacks =
@@ -85,6 +87,15 @@ module _ (freshens : Freshens) (Can : List ℕ → Found → Type 0) (c after : 
         undeleted = λ table condition tree is. lost-kept Can c after statement table condition tree text is done;
         explained = λ tree is. explains-query Can c after statement tree text is done;
         unchanged = λ tree is. explained-kept Can c after statement tree text is done;
+        created = creates-table Can c after statement text sound regular done;
+        inserted = inserts-rows Can c after statement text sound regular done;
+        copied = copies-rows Can c after statement text sound regular done;
+        deleted = deletes-rows Can c after statement text sound regular done;
+        table_dropped = drops-table Can c after statement text sound regular done;
+        view_dropped = drops-view Can c after statement text sound regular done;
+        view_created = creates-view Can c after statement text sound regular done;
+        freshness = λ table is. shows-fresh Can c after statement table text is done stands sound regular;
+        kept = λ table is. shown-kept Can c after statement table text is done;
       }
 
 -- ---- the statements of a script
@@ -105,7 +116,7 @@ module _ (c d : Contents) (statement other : Statement) (refused named : StepRef
   at-refusal : refused ≡ named
   at-refusal = cc
 
-module _ (keeps : Keeps) (freshens : Freshens) (Can : List ℕ → Found → Type 0) (statements : List Statement) (ran : Ran) (regular : Each RegularStatement statements)
+module _ (keeps : Keeps) (freshens : Freshens) (stands : Stands) (Can : List ℕ → Found → Type 0) (statements : List Statement) (ran : Ran) (regular : Each RegularStatement statements)
     (met : Course Can (nothing_held 1) statements ran) where
   sound-left : (k : ℕ) → k ≤ length ran.texts → IsSound (met.left k)
   sound-left = sound-at keeps Can (nothing_held 1) statements ran (sound-empty 1) regular met
@@ -116,7 +127,7 @@ module _ (keeps : Keeps) (freshens : Freshens) (Can : List ℕ → Found → Typ
       let a = met.accepted k text said in
       let same : a.statement ≡ statement = same_statement a.statement statement (sym a.met ∙ is) in
       let within = slice_get_within ran.texts k text said in
-      accepts-of freshens Can (met.left k) (met.left (suc k)) statement text (sound-left k (omega (arith, within)))
+      accepts-of freshens stands Can (met.left k) (met.left (suc k)) statement text (sound-left k (omega (arith, within)))
       (regular statement (contains-at statements k statement is))
       (subst (λ (s : Statement). TakesTurn Can (asked (met.left k) s) (met.left k) (met.left (suc k)) (Ok text)) same a.turn)
 
@@ -207,7 +218,7 @@ generated≢named rows name e = cc
 misworded≢named : (name : List ℕ) → Misworded ≡ Named name → ⊥
 misworded≢named name e = cc
 
-module _ (keeps : Keeps) (freshens : Freshens)
+module _ (keeps : Keeps) (freshens : Freshens) (stands : Stands)
     (one_script : (bytes : List ℕ) (a b : Script) → IsScriptOf bytes a → IsScriptOf bytes b → a ≡ b)
     (neither : (bytes : List ℕ) (script : Script) (b : Break) → IsScriptOf bytes script → IsMisspelled bytes b → ⊥)
     (one_break : (bytes : List ℕ) (a b : Break) → IsMisspelled bytes a → IsMisspelled bytes b → a ≡ b)
@@ -224,7 +235,7 @@ module _ (keeps : Keeps) (freshens : Freshens)
         let same : other.statements ≡ script.statements = ap (λ (s : Script). s.statements) (one_script bytes other script also spelled) in
         let met = course-of Can script.statements (nothing_held 1) rest (subst (λ (ss : List Statement). RunsFrom Can (nothing_held 1) ss rest) same runs) in
         subst (HeadlineOfStatements Can script.statements) (sym is)
-        (statements-told keeps freshens Can script.statements (after_files files rest) (regular bytes spelled.tokens script spelled.lexes spelled.spells)
+        (statements-told keeps freshens stands Can script.statements (after_files files rest) (regular bytes spelled.tokens script spelled.lexes spelled.spells)
         (course-files Can files (nothing_held 1) script.statements rest met))
     spelled-told script spelled (inr (b, wrong, e)) = absurd (neither bytes script b spelled wrong)
 

@@ -1,12 +1,12 @@
 -- An IMPACT that is accepted answers the rows that vanish, and deletes nothing.
-use Rattle.std.proofs.Common.{◌≡◌, ◌∙◌, ℕ, Bool, true, false, cond, List, [], length, Option, Ok, IsTrue, refl, sym, ap, subst}
+use Rattle.std.proofs.Common.{◌≡◌, ◌∙◌, ◌↔◌, ℕ, Bool, true, false, cond, List, [], length, Option, Ok, All, IsTrue, refl, sym, ap, subst}
 use Rattle.std.specs.Option.{option_map_or}
 use Rattle.bag_algebra.proofs.BagLaws.{member_decides}
 use Rattle.bag_algebra.proofs.Members.{member-in}
 use Rattle.bag_algebra.proofs.Outcomes.{same_good}
 use Rattle.bag_algebra.specs.Bags.{Row, Bag, member}
 use Rattle.bag_algebra.specs.Fits.{TablesFit}
-use Rattle.bag_algebra.specs.Meaning.{Database, meaning}
+use Rattle.bag_algebra.specs.Meaning.{Database, meaning, witnesses}
 use Rattle.bag_algebra.specs.Outcome.{Outcome, Good, Bad, each}
 use Rattle.bag_algebra.specs.TableRows.{rows_in}
 use Rattle.bag_algebra.specs.declared.expr.Expr.{Expr}
@@ -30,7 +30,8 @@ use Rattle.sql_tree.specs.declared.query.QueryTree.{QueryTree}
 use Rattle.sql_tree.specs.declared.statement.Statement.{Statement}
 use Rattle.sql_tree.specs.declared.statement.StatementBody.{StatementBody}
 use Rattle.sql_tree.specs.declared.statement.StatementBody.TheVariants as st
-use Rattle.delete_impact.specs.vanishing.Doomed.{doomed_on}
+use Rattle.delete_impact.proofs.VanishingRows.{vanishing-rows}
+use Rattle.delete_impact.specs.vanishing.Doomed.{doomed_on, has_doomed, places_over}
 use Rattle.statement_meaning.proofs.Impacts.{before-good, each-good, lost-listed, one_lost_text}
 use Rattle.statement_meaning.proofs.Ready.{names-whole}
 use Rattle.statement_meaning.proofs.Wide.{rows-wide, tree-named}
@@ -127,6 +128,14 @@ module _ (Can : List ℕ → Found → Type 0) (c after : Contents) (statement :
       (going-good (reads stands.table.id answer.query) both-good.1.0 read
       (subst (λ (id : ℕ). rows_going id given answer.query db ≡ Good both-good.1.0) id-is both-good.1.1)) row (member-in row (db stands.table.id) there)
 
+  -- by which of its witness lists a row vanishes
+  doomed : (t : Row) → InBag t lists.rows ↔ (InBag t found.bag × All (λ w. IsTrue (has_doomed given (places_over stands.table.id answer.query) w)) (witnesses answer.query db [] t))
+  doomed t =
+      let vanishes = vanishing-rows answer.query stands.table.id given db t found.bag stands.monotone fits both-good.0 in (
+        λ there. let parts = vanishes.0 ((lists.vanish.rows t).0 there) in ((member_decides t found.bag).0 parts.0, parts.1),
+        λ parts. (lists.vanish.rows t).1 (vanishes.1 ((member_decides t found.bag).1 parts.0, parts.1)),
+      )
+
   wide : (t : Row) → InBag t lists.rows → length t ≡ length answer.names
   wide t there =
       let vanishes = (lists.vanish.rows t).0 there in
@@ -147,5 +156,6 @@ module _ (Can : List ℕ → Found → Type 0) (c after : Contents) (statement :
     met = met;
     lists = lists;
     only = λ other shown. one_lost_text answer stands.table.id given db other text shown lists;
+    doomed = doomed;
     wide = wide;
   }

@@ -4,4 +4,4 @@ mod laws;
 mod made;
 
 pub use laws::a_generated_text_is_a_script;
-pub use made::generated;
+pub use made::generate;

@@ -9,6 +9,7 @@ ghost use Rattle.perm_engine.specs.meaning.headline.Headline.{Headline, Headline
 use crate::meaning::{a_misspelling_has_one_break, bytes_are_one_script};
 use sql_parser::a_spelled_script_is_regular;
 use statement_meaning::{a_stored_query_is_fresh, statements_keep_catalogs_sound};
+use stored_provenance::a_fresh_table_stands_for_its_query;
 
 mod runs;
 mod words;
@@ -32,4 +33,5 @@ pub fn every_run_is_told_by_the_headline()
     a_spelled_script_is_regular();
     statements_keep_catalogs_sound();
     a_stored_query_is_fresh();
+    a_fresh_table_stands_for_its_query();
 }

@@ -94,7 +94,7 @@ fn numbered(text: &str) -> Wanted
     match text.parse::<u64>() {
         Ok(rows) => {
             if 1 <= rows && rows <= 100_000 {
-                Wanted::Generated(rows)
+                Wanted::Generated(rows as u32)
             } else {
                 Wanted::Misworded
             }

@@ -10,7 +10,7 @@ ghost use Rattle.simpler_laws.specs.merged.Substituted.{ItemsSubstituted, IsMerg
 
 use crate::lowering::own_place;
 use crate::merged::substituting::substituted;
-use bag_algebra::{Expr, Item, Query, Sublink, items_faultless};
+use bag_algebra::{Expr, Item, Projection, Query, Sublink, items_faultless};
 use perm_values::{Copyable, List, NoMemory, three};
 use std::alloc::Global;
 
@@ -60,9 +60,9 @@ pub fn input_of(query: Query) -> Query
     ensures { (input : Query) (items : List Item) (subs : List Sublink) →
         query ≡ Project input items subs → result ≡ input }
 {
-    match query {
-        Query::Project { input, .. } => input.into_inner(),
-        other => other,
+    match query.into_projection() {
+        Ok(Projection { input, .. }) => input,
+        Err(other) => other,
     }
 }
 

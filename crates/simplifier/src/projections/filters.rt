@@ -9,7 +9,7 @@ ghost use Rattle.simplifier.specs.projections.Plans.{IsFilterPlan};
 
 use crate::projections::carried::{all_reach, carried, leading};
 use crate::projections::sides::{below, under};
-use bag_algebra::{Expr, Query, Sublink};
+use bag_algebra::{Expr, Query, Selection, Sublink};
 use contribution::{moved, regroup};
 use perm_values::{List, NoMemory};
 use std::alloc::Global;
@@ -95,8 +95,8 @@ fn filtered(alloc: Global, query: Query) -> (Query, List<Sublink>)
     ensures { (input : Query) (condition : Expr) (subs : ItemsOf Sublink) →
         query ≡ Filter input condition subs → result ≡ (input, subs) }
 {
-    match query {
-        Query::Filter { input, subs, .. } => (input.into_inner(), subs),
-        other => (other, List::new(alloc)),
+    match query.into_selection() {
+        Ok(Selection { input, subs, .. }) => (input, subs),
+        Err(other) => (other, List::new(alloc)),
     }
 }

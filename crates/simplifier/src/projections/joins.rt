@@ -8,7 +8,7 @@ ghost use Rattle.bag_algebra.specs.declared.query.Query.{Query};
 ghost use Rattle.simplifier.specs.projections.Plans.{IsJoinPlan, pair_places};
 
 use crate::projections::sides::{Side, side_of, under};
-use bag_algebra::{Expr, JoinKind, Query};
+use bag_algebra::{Expr, JoinKind, JoinParts, Query};
 use contribution::{join_on, moved, regroup};
 use perm_values::{List, NoMemory, both};
 use rewrite_core::sum;
@@ -124,8 +124,8 @@ fn joined(query: Query) -> (Query, Query)
     ensures { (kind : JoinKind) (left right : Query) (condition : Expr) →
         query ≡ Join kind left right condition [] → result ≡ (left, right) }
 {
-    match query {
-        Query::Join { left, right, .. } => (left.into_inner(), right.into_inner()),
-        other => (other, Query::Single),
+    match query.into_join() {
+        Ok(JoinParts { left, right, .. }) => (left, right),
+        Err(other) => (other, Query::Single),
     }
 }

@@ -1,12 +1,14 @@
 -- What a text is read as, and what that says.
-use Rattle.std.proofs.Common.{◌≡◌, ◌∙◌, ℕ, ◌-◌, true, nat_eq, List, [], ◌∷◌, ◌++◌, length, take, drop, Option, Some, None, Result, Ok, Err, IfOk, refl, sym, ap, subst, arith}
+use Rattle.std.proofs.Common.{◌≡◌, ◌∙◌, ℕ, ◌-◌, Bool, true, nat_eq, List, [], ◌∷◌, ◌++◌, length, take, drop, Option, Some, None, Result, Ok, Err, IfOk, refl, sym, ap, subst, arith}
 use Rattle.std.specs.Prelude.{codes}
 use Rattle.std.specs.Cmp.Lexicographic.{same_text}
 use Rattle.std.specs.List.{ends_with, list_all}
 use Rattle.std.proofs.lemmas.List.{take-append-drop}
-use Rattle.statement_meaning.specs.explains.Explains.{Explains, MeansTheSame, is_plain_word, one_select, read_as}
+use Rattle.statement_meaning.specs.explains.Explains.{Explains, MeansTheSame, NamesTables, is_plain_word, one_select, read_as}
+use Rattle.statement_meaning.proofs.explains.SameMeanings.{one_query}
 use Rattle.bag_algebra.specs.declared.query.Answer.{Answer}
-use Rattle.sql_printer.specs.explained.Reading.{IsPlainText, OnlyQuery, PlainText, ReadAgain, SaidOf, explain_of}
+use Rattle.sql_printer.specs.explained.Alone.{IsAlone}
+use Rattle.sql_printer.specs.explained.Reading.{IsPlainText, IsWholeText, NamesTablesText, OnlyQuery, PlainText, ReadAgain, SaidIn, SaidOf, explain_of}
 use Rattle.name_meaning.specs.Statements.{breaks, limit_breaks, name_breaks, resolved}
 use Rattle.name_meaning.specs.declared.answer.Resolved.{Resolved}
 use Rattle.name_meaning.specs.declared.answer.Resolved.TheVariants as r
@@ -83,21 +85,51 @@ module _ (c : Contents) (text : List ℕ) (statement : Statement) (p : IsPlainTe
         → IsReady c made
     ready sound spelled law = subst (IsReady c) (sym is.is) (law c statement sound (regular spelled) is.whole)
 
-    pub says : ((c : Contents) (answer other : Answer) (text : List ℕ) → Explains c answer text → Explains c other text → MeansTheSame c answer other)
-        → (again : Option (List ℕ)) → SaidOf c made again → ReadAgain c text again
-    says law None said = tt
-    says law (Some again) said = λ (answer : Answer) (explains : Explains c answer again). record {
-      start = p.start;
-      tree = p.tree;
-      spelled = p.spelled;
-      plain = p.plain;
-      front = p.front;
-      ended = p.ended;
-      whole = whole;
-      means = law c answer (read_as c p.tree) again explains (subst (λ (m : Resolved). SaidOf c m (Some again)) made-is said);
-    }
+    pub whole-text : IsWholeText c text
+    whole-text = record { start = p.start; tree = p.tree; spelled = p.spelled; whole = whole }
 
-    pub read : ((c : Contents) (answer other : Answer) (text : List ℕ) → Explains c answer text → Explains c other text → MeansTheSame c answer other)
+    said-in : (again : Option (List ℕ)) → SaidOf c made again → SaidIn c (read_as c p.tree) again
+    said-in None said = tt
+    said-in (Some again) said = subst (λ (m : Resolved). SaidOf c m (Some again)) made-is said
+
+    names : NamesTablesText c text → NamesTables c p.tree
+    names t = subst (NamesTables c) (one_query text t.start p.start t.tree p.tree t.spelled p.spelled) t.tables
+
+    pub says : NamesTablesText c text
+        → ((c : Contents) (answer other : Answer) (text : List ℕ) → Explains c answer text → Explains c other text → MeansTheSame c answer other)
+        → (again : Option (List ℕ)) → SaidOf c made again → ReadAgain c text again
+    says tables law None said = tt
+    says tables law (Some again) said = λ (answer : Answer) (explains : Explains c answer again).
+        let own = said-in (Some again) said in record {
+          start = p.start;
+          tree = p.tree;
+          spelled = p.spelled;
+          plain = p.plain;
+          front = p.front;
+          ended = p.ended;
+          tables = names tables;
+          whole = whole;
+          plainly = own.0;
+          means = law c answer (read_as c p.tree) again explains own.1;
+        }
+
+    pub read : NamesTablesText c text
+        → ((c : Contents) (answer other : Answer) (text : List ℕ) → Explains c answer text → Explains c other text → MeansTheSame c answer other)
         → (result : Result (Option (List ℕ)) NoMemory) → IfOk result (SaidOf c made) → IfOk result (ReadAgain c text)
-    read law (Ok again) said = says law again said
-    read law (Err error) said = tt
+    read tables law (Ok again) said = says tables law again said
+    read tables law (Err error) said = tt
+
+-- ---- over tables alone
+
+pub named-text : (c alone : Contents) (text : List ℕ) → IsAlone c alone → IsWholeText alone text → NamesTablesText c text
+named-text c alone text is t = record {
+  start = t.start;
+  tree = t.tree;
+  spelled = t.spelled;
+  tables = record { tables = alone; are = is.are; whole = t.whole };
+}
+
+pub named-where : (c alone : Contents) (text : List ℕ) → IsAlone c alone → (result : Result Bool NoMemory)
+    → IfOk result (λ is. is ≡ true → IsWholeText alone text) → IfOk result (λ does. does ≡ true → NamesTablesText c text)
+named-where c alone text is (Ok does) whole = λ (e : does ≡ true). named-text c alone text is (whole e)
+named-where c alone text is (Err error) whole = tt

@@ -6,13 +6,13 @@ ghost use Rattle.statement_meaning.specs.Ready.{CanExplain};
 ghost use Rattle.sql_printer.specs.explained.Explaining.{StandsFor};
 ghost use Rattle.sql_printer.specs.explained.Reading.{SaysAs};
 
-use crate::explained::plain::simplest_query;
 use crate::explained::reading::read_again;
 use crate::{print, tables_named};
 use bag_algebra::Answer;
 use named_texts::named_text;
 use perm_catalog::Catalog;
 use perm_values::{Bytes, Chars, Copyable, NoMemory};
+use plain_queries::plain_query;
 use query_texts::TableNames;
 use statement_meaning::a_text_explains_all_that_means_the_same;
 use std::alloc::Global;
@@ -56,13 +56,13 @@ pub(crate) fn plain_text(
     print(alloc, catalog, &simplest)
 }
 
-/// A plain query that stands for the answer's, with its names and its keys.
+/// What is run for the answer: a plain query that stands for its own, with its names and its keys.
 fn plain_answer(alloc: Global, answer: &Answer) -> Result<Answer, NoMemory>
     ensures { IfOk result (λ plain. StandsFor answer.now plain) }
 {
     let names = answer.names.copy(alloc)?;
     let keys = answer.keys.copy(alloc)?;
-    let query = simplest_query(alloc, &answer.query)?;
+    let query = plain_query(alloc, &answer.query)?;
     Ok(Answer { query, names, keys })
 }
 
@@ -79,23 +79,23 @@ fn readable_text(
     if text.len() > LONGEST {
         return Ok(text);
     }
-    match text_with_names(alloc, catalog, answer)? {
-        Some(named) => either_text(alloc, catalog, text, named),
+    let tables = tables_named(alloc, catalog, &answer.query)?;
+    match text_with_names(alloc, tables.as_slice(), answer)? {
+        Some(named) => either_text(alloc, catalog, tables.as_slice(), text, named),
         None => Ok(text),
     }
 }
 
-/// The answer as people would write it, in lines; `None` where a name may not be repeated.
+/// The answer over these tables as people would write it, in lines; `None` where a name may not be repeated.
 fn text_with_names(
     alloc: Global,
-    catalog: &Catalog,
+    tables: &[TableNames],
     answer: &Answer,
 ) -> Result<Option<Bytes>, NoMemory> {
-    let tables = tables_named(alloc, catalog, &answer.query)?;
-    if !names_may_repeat(tables.as_slice(), answer.names.as_slice()) {
+    if !names_may_repeat(tables, answer.names.as_slice()) {
         return Ok(None);
     }
-    let text = named_text(alloc, tables.as_slice(), answer)?;
+    let text = named_text(alloc, tables, answer)?;
     Ok(Some(in_lines(alloc, text.as_slice())?))
 }
 
@@ -114,17 +114,18 @@ fn names_may_repeat(tables: &[TableNames], names: &[Chars]) -> bool {
     tables.iter().all(|table| has_short_names(table)) && are_short(names, LONGEST_NAME)
 }
 
-/// The text with names, where its plain text is the other one; else the other one.
+/// The text with names, where it names these tables alone and its plain text is the other one; else the other one.
 fn either_text(
     alloc: Global,
     catalog: &Catalog,
+    tables: &[TableNames],
     text: Bytes,
     named: Bytes,
 ) -> Result<Bytes, NoMemory>
     requires { IsSound catalog.now }
     ensures { IfOk result (λ said. SaysAs catalog.now said text) }
 {
-    match read_again(alloc, catalog, named.as_slice())? {
+    match read_again(alloc, catalog, tables, named.as_slice())? {
         Some(again) if again.as_slice() == text.as_slice() => Ok(named),
         _ => Ok(text),
     }

@@ -1,6 +1,7 @@
 -- When a text says what an answer means.
 use Rattle.std.specs.Prelude.{◌≡◌, ℕ, Bool, true, not, ◌||◌, List, [], ◌∷◌, ◌++◌, Some, codes}
 use Rattle.std.specs.List.{list_all}
+use Rattle.std.specs.Option.{option_map}
 use Rattle.sql_lexer.specs.declared.token.Token.{Token}
 use Rattle.sql_tree.specs.grammar.Building.{is}
 use Rattle.sql_tree.specs.grammar.Symbols as n
@@ -11,7 +12,7 @@ use Rattle.sql_tree.specs.declared.statement.Script.{Script}
 use Rattle.sql_tree.specs.declared.statement.StatementBody.TheVariants.{Select}
 use Rattle.bag_algebra.specs.Fits.{bag_fits}
 use Rattle.bag_algebra.specs.Meaning.{Database, meaning}
-use Rattle.bag_algebra.specs.Rewriting.{SameRows}
+use Rattle.bag_algebra.specs.Rewriting.{is_plain, SameRows}
 use Rattle.bag_algebra.specs.declared.query.Answer.{Answer}
 use Rattle.perm_catalog.specs.Changes.{table_named}
 use Rattle.perm_catalog.specs.Columns.{column_kinds}
@@ -42,8 +43,20 @@ read_as c tree = answer_of (query_meant c tree)
 abbrev pub one_select : ℕ → QueryTree → Script
 one_select at tree = record { statements = record { at = at; body = Select tree } ∷ [] }
 
--- the text is one query without these words, ended by `;` and a newline, which breaks no rule of names and kinds and is read
--- as what means the same
+-- no view, and no table but with the columns that the catalog's table of its name has
+pub record AreTablesOf (c tables : Contents) : Type 0 where
+  pub no_view : tables.views ≡ []
+  pub columns : (name : List ℕ) (table : TableEntry) → table_named tables name ≡ Some table
+      → option_map (λ (own : TableEntry). own.columns) (table_named c name) ≡ Some table.columns
+
+-- the query names tables of the catalog, and no view: it breaks no rule where there is nothing but such tables
+pub record NamesTables (c : Contents) (tree : QueryTree) : Type 0 where
+  pub tables : Contents
+  pub are : AreTablesOf c tables
+  pub whole : name_breaks tables (Select tree) ≡ []
+
+-- the text is one query without these words, ended by `;` and a newline, which names tables alone, breaks no rule of names and
+-- kinds, and is read as what is without PROVENANCE and means the same
 pub record Explains (c : Contents) (answer : Answer) (text : List ℕ) : Type 0 where
   pub start : ℕ
   pub tree : QueryTree
@@ -51,5 +64,7 @@ pub record Explains (c : Contents) (answer : Answer) (text : List ℕ) : Type 0 
   pub plain : list_all is_plain_word spelled.tokens ≡ true
   pub front : List ℕ
   pub ended : text ≡ front ++ codes ";\n"
+  pub tables : NamesTables c tree
   pub whole : name_breaks c (Select tree) ≡ []
+  pub plainly : is_plain (read_as c tree).query ≡ true
   pub means : MeansTheSame c answer (read_as c tree)

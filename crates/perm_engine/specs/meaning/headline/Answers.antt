@@ -1,10 +1,10 @@
 -- What a query that is met answers, without the word PROVENANCE and with it, what CREATE TABLE AS stores, and what IMPACT and EXPLAIN
 -- REWRITE answer.
-use Rattle.std.specs.Prelude.{◌≡◌, ◌≢◌, ◌↔◌, ℕ, Bool, true, List, [], ◌++◌, length, take, codes, Option, Some, IsTrue}
+use Rattle.std.specs.Prelude.{◌≡◌, ◌≢◌, ◌↔◌, ℕ, Bool, true, List, [], ◌++◌, length, take, codes, Option, Some, All, IsTrue}
 use Rattle.statement_meaning.specs.explains.Explains.{Explains}
 use Rattle.bag_algebra.specs.Bags.{Row, Bag, member}
 use Rattle.bag_algebra.specs.Kinds.{width_of}
-use Rattle.bag_algebra.specs.Meaning.{meaning}
+use Rattle.bag_algebra.specs.Meaning.{meaning, witnesses}
 use Rattle.bag_algebra.specs.Outcome.{Good}
 use Rattle.bag_algebra.specs.TableRows.{rows_in}
 use Rattle.bag_algebra.specs.declared.expr.Expr.{Expr}
@@ -21,7 +21,7 @@ use Rattle.sql_tree.specs.declared.name.Name.{Name}
 use Rattle.sql_tree.specs.declared.query.QueryTree.{QueryTree}
 use Rattle.sql_tree.specs.declared.query.SetTree.{SetTree}
 use Rattle.sql_tree.specs.declared.statement.Statement.{Statement}
-use Rattle.delete_impact.specs.vanishing.Doomed.{doomed_on}
+use Rattle.delete_impact.specs.vanishing.Doomed.{doomed_on, has_doomed, places_over}
 use Rattle.statement_meaning.specs.laws.Asks.{AsksFor, HasWord, WithoutWord, shown_names, with_body}
 use Rattle.statement_meaning.specs.laws.Freshened.{StoresFresh}
 use Rattle.statement_meaning.specs.laws.Lost.{AsksImpact, ListsLost}
@@ -124,5 +124,8 @@ pub record AnswersLost (c : Contents) (statement : Statement) (table : Name) (tr
   pub lists : ListsLost answer entry.id condition (rows_in c.rows) text
   -- and no other text does
   pub only : (other : List ℕ) → ListsLost answer entry.id condition (rows_in c.rows) other → other ≡ text
+  -- these are the rows of the bag each of whose witness lists has a row of the table that would be deleted
+  pub doomed : (t : Row) → InBag t lists.rows ↔ (InBag t bag
+      × All (λ w. IsTrue (has_doomed condition (places_over entry.id answer.query) w)) (witnesses answer.query (rows_in c.rows) [] t))
   -- each row has as many values as the header has names
   pub wide : (t : Row) → InBag t lists.rows → length t ≡ length answer.names

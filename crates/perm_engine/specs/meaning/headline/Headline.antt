@@ -1,5 +1,5 @@
 -- The headline: what a run over a command line and files has written, and why it ended.
-use Rattle.std.specs.Prelude.{true, ◌≡◌, ◌≢◌, ◌⊎◌, ℕ, suc, ◌≤◌, ◌<◌, ◌-◌, ◌^◌, List, [], ◌∷◌, length, Option, Some, Ok, Err}
+use Rattle.std.specs.Prelude.{true, ◌≡◌, ◌≢◌, ◌⊎◌, ℕ, suc, ◌≤◌, ◌<◌, ◌-◌, ◌^◌, Bool, List, [], ◌∷◌, length, Option, Some, Ok, Err}
 use Rattle.std.specs.List.{slice_get}
 use Rattle.bag_algebra.specs.Meaning.{meaning}
 use Rattle.bag_algebra.specs.Outcome.{Faults, Bad, has}
@@ -19,9 +19,11 @@ use Rattle.sql_tree.specs.Regular.{RegularStatement}
 use Rattle.sql_tree.specs.declared.expression.ExprTree.{ExprTree}
 use Rattle.sql_tree.specs.declared.name.Name.{Name}
 use Rattle.sql_tree.specs.declared.query.QueryTree.{QueryTree}
+use Rattle.sql_tree.specs.declared.statement.ColumnDef.{ColumnDef}
 use Rattle.sql_tree.specs.declared.statement.Script.{Script}
 use Rattle.sql_tree.specs.declared.statement.Statement.{Statement}
 use Rattle.sql_tree.specs.declared.statement.StatementBody.TheVariants as st
+use Rattle.sql_tree.specs.declared.statement.ValuesRow.{ValuesRow}
 use Rattle.statement_meaning.specs.laws.Asks.{AsksFor, AsksToExplain, HasWord}
 use Rattle.statement_meaning.specs.laws.Lost.{AsksImpact, MeetsLost}
 use Rattle.statement_meaning.specs.Answers.{Files, TakesTurn, can_be}
@@ -38,7 +40,9 @@ use Rattle.perm_engine.specs.meaning.Scripts.{IsScriptOf, IsMisspelled}
 use Rattle.perm_engine.specs.meaning.Stops.{Misused, NoFile, LongFile, FailedFile, NoScript, At, IsFirst, IsRefused}
 use Rattle.perm_engine.specs.declared.meaning.status.Status.{Status}
 use Rattle.perm_engine.specs.meaning.headline.Answers.{AnswersBeside, AnswersLost, AnswersRows, ExplainsQuery, StoresAnswer}
+use Rattle.perm_engine.specs.meaning.headline.Changes.{CopiesRows, CreatesTable, CreatesView, DeletesRows, DropsTable, DropsView, InsertsRows}
 use Rattle.perm_engine.specs.meaning.headline.Course.{Course}
+use Rattle.perm_engine.specs.meaning.headline.Freshness.{ShowsFresh}
 use Rattle.perm_engine.specs.meaning.headline.Words.{LacksWord}
 
 -- a statement that is accepted over the contents c, with this text, and leaves the contents `after`
@@ -65,6 +69,26 @@ pub record Accepts (Can : List ℕ → Found → Type 0) (c after : Contents) (s
   pub explained : (tree : QueryTree) → statement.body ≡ st.Explain tree → ExplainsQuery c statement tree text
   -- and changes nothing
   pub unchanged : (tree : QueryTree) → statement.body ≡ st.Explain tree → after ≡ c
+  -- CREATE TABLE makes a table that has no row; other tables are as before, as with all that follows
+  pub created : (table : Name) (columns : List ColumnDef) → statement.body ≡ st.CreateTable table columns → CreatesTable c after table columns text
+  -- INSERT puts the rows of its values behind those of its table, and counts them
+  pub inserted : (table : Name) (values : List ValuesRow) → statement.body ≡ st.Insert table values → InsertsRows c after table values text
+  -- COPY puts the rows that its file's records spell behind those of its table, and counts them
+  pub copied : (table : Name) (file : List ℕ) (header : Bool) (null_field : List ℕ) → statement.body ≡ st.Copy table file header null_field
+      → CopiesRows Can c after table file header null_field text
+  -- DELETE takes away, and counts, the rows of its table for which its condition is true; all others stay
+  pub deleted : (table : Name) (condition : Option ExprTree) → statement.body ≡ st.Delete table condition → DeletesRows c after table condition text
+  -- DROP TABLE takes its table away
+  pub table_dropped : (table : Name) → statement.body ≡ st.DropTable table → DropsTable c after table text
+  -- DROP VIEW takes its view away
+  pub view_dropped : (view : Name) → statement.body ≡ st.DropView view → DropsView c after view text
+  -- CREATE VIEW makes a view of what its query asks for
+  pub view_created : (view : Name) (tree : QueryTree) → statement.body ≡ st.CreateView view tree → CreatesView c after statement view tree text
+  -- SHOW FRESH answers `fresh` only where the rows of its table are those of the query that it stores, as often, and it may be read in the
+  -- place of that query
+  pub freshness : (table : Name) → statement.body ≡ st.ShowFresh table → ShowsFresh c table text
+  -- and changes nothing
+  pub kept : (table : Name) → statement.body ≡ st.ShowFresh table → after ≡ c
 
 -- a statement that is refused like this over the contents c
 pub record RefusesFirst (Can : List ℕ → Found → Type 0) (c : Contents) (statement : Statement) (refused : StepRefusal) : Type 0 where

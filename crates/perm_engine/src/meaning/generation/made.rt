@@ -95,7 +95,7 @@ impl Draft {
 
 /// The text of the script that is made from a number: `big` has a row for each number from 1 on, `small` one for each digit,
 /// and three of the four queries ask for provenance. It fails only for want of memory.
-pub fn generated(alloc: Global, rows: u64) -> Result<Bytes, NoMemory>
+pub fn generate(alloc: Global, rows: u32) -> Result<Bytes, NoMemory>
     ensures { IfOk result (λ text. text ≡ generated rows) }
 {
     let mut draft = Draft {
@@ -104,7 +104,7 @@ pub fn generated(alloc: Global, rows: u64) -> Result<Bytes, NoMemory>
     };
     draft.push_tables()?;
     draft.push(b"insert into big values ")?;
-    draft.push_big_rows(rows)?;
+    draft.push_big_rows(u64::from(rows))?;
     draft.push(b"; insert into small values ")?;
     draft.push_small_rows()?;
     draft.push(b"; ")?;

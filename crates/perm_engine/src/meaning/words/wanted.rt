@@ -6,7 +6,7 @@ pub enum Wanted {
     /// The script in the file of this name.
     Script(Chars),
     /// The script that is made from this number, from 1 to 100,000.
-    Generated(u64),
+    Generated(u32),
     /// Nothing that can be run.
     Misworded,
 }

@@ -10,6 +10,8 @@ returns c = λ contents answer other text same explains. record {
   plain = explains.plain;
   front = explains.front;
   ended = explains.ended;
+  tables = explains.tables;
   whole = explains.whole;
+  plainly = explains.plainly;
   means = same-trans contents other answer (read_as contents explains.tree) same explains.means;
 }

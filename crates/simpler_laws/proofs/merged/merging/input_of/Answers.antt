@@ -2,8 +2,10 @@ use Rattle.std.proofs.Common.{sym, ◌∙◌}
 use Rattle.simpler_laws.proofs.MergedProjects.{same_input}
 use Rattle.simpler_laws.proofs.merged.merging.input_of.Goals as goal
 
-pub returns-in-Project : goal.returns-in-Project
-returns-in-Project c input items subs e = c.into_inner.ensures ∙ same_input c.in-Project.input input c.in-Project.items items c.in-Project.subs subs (sym c.in-Project.is ∙ e)
+pub returns-in-Ok : goal.returns-in-Ok
+returns-in-Ok c input items subs e =
+    let parts = c.in-Ok.field-0 in
+    same_input parts.input input parts.items items parts.subs subs (sym c.in-Ok.ensures.parts ∙ e)
 
-pub returns-in_default : goal.returns-in_default
-returns-in_default c input items subs e = absurd (c.in_default.not-Project input items subs e)
+pub returns : goal.returns
+returns c input items subs e = absurd (c.in-Err.ensures.other input items subs e)
