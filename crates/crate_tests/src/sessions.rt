@@ -8,6 +8,7 @@ use crate::runs::file;
 use bag_algebra::{Env, Query, Tables, is_plain};
 use csv_tables::DataError;
 use name_meaning::{Break, Rule};
+use name_statements::{let_catalog_go, let_statements_go};
 use null_logic::RunFault;
 use perm_catalog::{Catalog, CatalogRefusal};
 use perm_engine::Session;
@@ -28,7 +29,7 @@ fn last_of(statements: List<Statement>) -> Option<Statement>
 {
     let mut statements = statements;
     let last = statements.pop();
-    drop(statements);
+    let_statements_go(statements.into_vec().into_iter());
     last
 }
 
@@ -143,7 +144,7 @@ fn created(alloc: Global, next: u64) -> Result<(Result<(), CatalogRefusal>, bool
     let mut catalog = Catalog::new(alloc, next);
     let made = catalog.create(alloc, &name, List::new(alloc), List::new(alloc), None);
     let holds = catalog.table(&name).is_some();
-    drop(catalog);
+    let_catalog_go(catalog);
     Ok((made, holds))
 }
 

@@ -1,4 +1,4 @@
-use Rattle.std.proofs.Common.{sym, subst, true, refl}
+use Rattle.std.proofs.Common.{sym, subst, refl}
 use Rattle.std.specs.Bool.{IsTrue}
 use Rattle.perm_catalog.specs.Changes.{is_free}
 use Rattle.perm_catalog.specs.Contents.{Contents}
