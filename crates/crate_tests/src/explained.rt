@@ -10,6 +10,9 @@ const TABLES: &[u8] =
 
 const TOLD: &[u8] = b"CREATE TABLE\nCREATE TABLE\nINSERT 4\nINSERT 3\n";
 
+/// A row more in each table.
+const MORE: &[u8] = b"INSERT INTO r VALUES (3, 'z'); INSERT INTO \"s \"\"\" VALUES (1, 7);";
+
 /// Queries over the tables, the last of which meet faults.
 const QUERIES: [&str; 18] = [
     "SELECT 1 AS \"one \"\"\", NULL, TRUE, 'o''k', -9223372036854775807 - 1;",
@@ -48,17 +51,70 @@ fn answered(alloc: Global, parts: &[&[u8]]) -> Result<Ended, NoMemory> {
     run(alloc, &given)
 }
 
+/// The text that explains the query over tables that are made and filled by these statements, which tell so many bytes.
+fn explained(alloc: Global, tables: &[u8], told: usize, query: &str) -> Result<Bytes, NoMemory> {
+    let ended = answered(alloc, &[tables, b"EXPLAIN REWRITE ", query.as_bytes()])?;
+    let mut text = Bytes::new(alloc);
+    text.add(ended.out.written().get(told..).unwrap_or(b""))?;
+    Ok(text)
+}
+
 #[test]
 fn a_text_answers_as_its_query(rt: HostRuntime) -> Result<(), Fail> {
     let alloc = rt.alloc();
     for query in QUERIES {
-        let asked = answered(alloc, &[TABLES, query.as_bytes()])?;
-        let explained = answered(alloc, &[TABLES, b"EXPLAIN REWRITE ", query.as_bytes()])?;
-        assert_eq!(rt; explained.status, Status::Done, "{query}");
-        let text = explained.out.written().get(TOLD.len()..).unwrap_or(b"");
-        let again = answered(alloc, &[TABLES, text])?;
-        assert_eq!(rt; again.status, asked.status, "{query}");
-        assert_eq!(rt; again.out.written(), asked.out.written(), "{query}");
+        let text = explained(alloc, TABLES, TOLD.len(), query)?;
+        for more in [b"".as_slice(), MORE] {
+            let asked = answered(alloc, &[TABLES, more, query.as_bytes()])?;
+            let again = answered(alloc, &[TABLES, more, text.as_slice()])?;
+            assert_eq!(rt; again.status, asked.status, "{query}");
+            assert_eq!(rt; again.out.written(), asked.out.written(), "{query}");
+        }
+    }
+    Ok(())
+}
+
+/// Queries that are explained over tables, the statements that come before the text is run, and what all that answers.
+const ANSWERED: [(&str, &str, &str, &str, &str); 4] = [
+    (
+        "CREATE TABLE r (a INTEGER, b TEXT); INSERT INTO r VALUES (1, 'x'), (2, 'y'); CREATE TABLE s (c INTEGER); INSERT INTO s VALUES (1), (2);",
+        "CREATE TABLE\nINSERT 2\nCREATE TABLE\nINSERT 2\n",
+        "SELECT PROVENANCE r.a, s.c FROM r LEFT JOIN s ON r.a = s.c AND EXISTS (SELECT 1 FROM s z WHERE z.c < r.a);",
+        "",
+        "\"a\",\"c\",\"prov_r_a\",\"prov_r_b\",\"prov_s_c\",\"prov_s_1_c\"\n1,,1,\"x\",,\n2,2,2,\"y\",2,1\n(2 rows)\n",
+    ),
+    (
+        "CREATE TABLE r (a INTEGER, b TEXT); INSERT INTO r VALUES (1, 'x'); CREATE TABLE s (c INTEGER); INSERT INTO s VALUES (1), (3);",
+        "CREATE TABLE\nINSERT 1\nCREATE TABLE\nINSERT 2\n",
+        "SELECT PROVENANCE r.a, s.c FROM r RIGHT JOIN s ON r.a = s.c AND s.c IN (SELECT z.c FROM s z);",
+        "",
+        "\"a\",\"c\",\"prov_r_a\",\"prov_r_b\",\"prov_s_c\",\"prov_s_1_c\"\n1,1,1,\"x\",1,1\n,3,,,3,\n(2 rows)\n",
+    ),
+    (
+        "CREATE TABLE r (a INTEGER, b TEXT); INSERT INTO r VALUES (1, 'x'), (2, 'y'); CREATE TABLE s (c INTEGER); INSERT INTO s VALUES (1), (2);",
+        "CREATE TABLE\nINSERT 2\nCREATE TABLE\nINSERT 2\n",
+        "SELECT PROVENANCE r.a, x.m FROM r CROSS JOIN LATERAL (SELECT MAX(c) AS m FROM s WHERE s.c <= r.a) x;",
+        "",
+        "\"a\",\"m\",\"prov_r_a\",\"prov_r_b\",\"prov_s_c\"\n1,1,1,\"x\",1\n2,2,2,\"y\",1\n2,2,2,\"y\",2\n(3 rows)\n",
+    ),
+    (
+        "CREATE TABLE r (a INTEGER); INSERT INTO r VALUES (1);",
+        "CREATE TABLE\nINSERT 1\n",
+        "SELECT PROVENANCE a + 1 AS n FROM r WHERE a IN (SELECT a FROM r);",
+        "INSERT INTO r VALUES (2);",
+        "INSERT 1\n\"n\",\"prov_r_a\",\"prov_r_1_a\"\n2,1,1\n3,2,2\n(2 rows)\n",
+    ),
+];
+
+#[test]
+fn a_text_asks_for_the_rows_as_they_are(rt: HostRuntime) -> Result<(), Fail> {
+    let alloc = rt.alloc();
+    for (tables, told, query, more, text) in ANSWERED {
+        let explained = explained(alloc, tables.as_bytes(), told.len(), query)?;
+        let again = [tables.as_bytes(), more.as_bytes(), explained.as_slice()];
+        let ended = answered(alloc, &again)?;
+        let written = ended.out.written();
+        assert_eq!(rt; written.get(told.len()..), Some(text.as_bytes()), "{query}");
     }
     Ok(())
 }

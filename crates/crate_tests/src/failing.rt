@@ -12,9 +12,6 @@ enum Side {
     Output,
 }
 
-/// More calls than any of the runs makes.
-const MOST_CALLS: u64 = 40;
-
 /// Files are read, rows are stored with their provenance, and a statement is refused.
 const STORED: &[u8] =
     b"CREATE TABLE r (a INTEGER, b TEXT); COPY r FROM 'c'; CREATE TABLE k AS SELECT PROVENANCE b FROM r; COPY r FROM 'c'; SHOW FRESH k; SELECT a FROM k";
@@ -22,6 +19,34 @@ const STORED: &[u8] =
 /// A table, rows that are inserted and taken away, a query with PROVENANCE, and what one means as SQL.
 const CHANGED: &[u8] =
     b"CREATE TABLE r (a INTEGER); INSERT INTO r VALUES (1), (2); DELETE FROM r WHERE a = 1; SELECT PROVENANCE a FROM r; EXPLAIN REWRITE SELECT a FROM r";
+
+const STORED_TEXTS: [&str; 6] = [
+    "CREATE TABLE\n",
+    "COPY 2\n",
+    "CREATE TABLE AS 2\n",
+    "COPY 2\n",
+    "stale r\n",
+    "error E11 at 137\n",
+];
+
+const CHANGED_TEXTS: [&str; 5] = [
+    "CREATE TABLE\n",
+    "INSERT 2\n",
+    "DELETE 1\n",
+    "\"a\",\"prov_r_a\"\n2,2\n(1 rows)\n",
+    "SELECT \"r\".\"a\"\nFROM \"r\";\n",
+];
+
+const GENERATED_TEXTS: [&str; 8] = [
+    "CREATE TABLE\n",
+    "CREATE TABLE\n",
+    "INSERT 2\n",
+    "INSERT 10\n",
+    "\"count\",\"sum\"\n2,3\n(1 rows)\n",
+    "\"count\"\n2\n(1 rows)\n",
+    "\"count\"\n2\n(1 rows)\n",
+    "\"count\"\n2\n(1 rows)\n",
+];
 
 const READ_FAULT: &[u8] = b"error E50\n";
 
@@ -50,62 +75,88 @@ fn failing_run(
     run(alloc, &given)
 }
 
-fn begins_with(whole: &[u8], part: &[u8]) -> bool {
-    part.len() <= whole.len() && &whole[..part.len()] == part
-}
-
-/// Whether what is written is a first part of the whole, and then the last bytes.
-fn begins_then(whole: &[u8], written: &[u8], last: &[u8]) -> bool {
-    if written.len() < last.len() {
-        return false;
+/// Whether what is written is these texts, and then the last line.
+fn is_text(texts: &[&str], last: &[u8], written: &[u8]) -> bool {
+    let mut from = 0;
+    for text in texts {
+        let to = text.len().saturating_add(from);
+        if written.get(from..to) != Some(text.as_bytes()) {
+            return false;
+        }
+        from = to;
     }
-    let front = written.len() - last.len();
-    &written[front..] == last && begins_with(whole, &written[..front])
+    written.get(from..) == Some(last)
 }
 
-/// Whether a run whose call failed says so behind a first part of what the whole run writes.
-fn is_cut(ended: &Ended, whole: &[u8], side: Side) -> bool {
+/// Whether a run whose call failed says so behind so many whole texts.
+fn is_cut(ended: &Ended, texts: &[&str], side: Side) -> bool {
     let written = ended.out.written();
     match side {
-        Side::Output => ended.status == Status::WriteFault && begins_with(whole, written),
-        Side::Files => {
-            ended.status == Status::ReadFault && begins_then(whole, written, READ_FAULT)
-        }
+        Side::Output => ended.status == Status::WriteFault && is_text(texts, b"", written),
+        Side::Files => ended.status == Status::ReadFault && is_text(texts, READ_FAULT, written),
     }
 }
 
-/// How many first calls fail with the fault that they are: those until a run that ends as the whole one does. None where one ends otherwise.
-fn faults_of(
+/// A command line, the texts of a run of it, and behind how many of them each of its calls fails.
+#[derive(Clone, Copy)]
+struct Whole<'a> {
+    words: &'a [&'a str],
+    script: &'a [u8],
+    texts: &'a [&'a str],
+    reads: &'a [usize],
+    writes: &'a [usize],
+}
+
+/// Whether each of the calls fails behind so many texts, and the run that makes fewer calls has all of them.
+fn fails_behind(
     alloc: Global,
-    words: &[&str],
-    script: &[u8],
+    whole: &Whole<'_>,
     side: Side,
-) -> Result<Option<u64>, NoMemory> {
-    let whole = failing_run(alloc, words, script, side, 0)?;
-    for call in 1..MOST_CALLS {
-        let ended = failing_run(alloc, words, script, side, call)?;
-        if ended.status == whole.status && ended.out.written() == whole.out.written() {
-            return Ok(Some(call - 1));
-        }
-        if !is_cut(&ended, whole.out.written(), side) {
-            return Ok(None);
+    behind: &[usize],
+) -> Result<bool, NoMemory> {
+    for (at, count) in behind.iter().enumerate() {
+        let call = at as u64 + 1;
+        let ended = failing_run(alloc, whole.words, whole.script, side, call)?;
+        let texts = whole.texts.get(..*count).unwrap_or(&[]);
+        if !is_cut(&ended, texts, side) {
+            return Ok(false);
         }
     }
-    Ok(None)
+    let last = behind.len() as u64 + 1;
+    let ended = failing_run(alloc, whole.words, whole.script, side, last)?;
+    Ok(is_text(whole.texts, b"", ended.out.written()))
 }
 
 #[test]
 fn each_call_fails_in_turn(rt: HostRuntime) -> Result<(), Fail> {
     let alloc = rt.alloc();
     // A file is begun, read, and read to its end; a text is a write, and the last call is the flush.
-    let cases: [(&[&str], &[u8], u64, u64); 3] = [
-        (&["s"], STORED, 9, 7),
-        (&["s"], CHANGED, 3, 6),
-        (&["--generate", "2"], b"", 0, 9),
+    let cases = [
+        Whole {
+            words: &["s"],
+            script: STORED,
+            texts: &STORED_TEXTS,
+            reads: &[0, 0, 0, 1, 1, 1, 3, 3, 3],
+            writes: &[0, 1, 2, 3, 4, 5, 6],
+        },
+        Whole {
+            words: &["s"],
+            script: CHANGED,
+            texts: &CHANGED_TEXTS,
+            reads: &[0, 0, 0],
+            writes: &[0, 1, 2, 3, 4, 5],
+        },
+        Whole {
+            words: &["--generate", "2"],
+            script: b"",
+            texts: &GENERATED_TEXTS,
+            reads: &[],
+            writes: &[0, 1, 2, 3, 4, 5, 6, 7, 8],
+        },
     ];
-    for (words, script, reads, writes) in cases {
-        assert!(rt; faults_of(alloc, words, script, Side::Files)? == Some(reads));
-        assert!(rt; faults_of(alloc, words, script, Side::Output)? == Some(writes));
+    for whole in &cases {
+        assert!(rt; fails_behind(alloc, whole, Side::Files, whole.reads)?);
+        assert!(rt; fails_behind(alloc, whole, Side::Output, whole.writes)?);
     }
     Ok(())
 }

@@ -1,11 +1,7 @@
-//! Tables of tests over the public calls of the crates. What a contract says isn't tested, nor what the stored run of the
-//! program goes through.
+//! Tables of tests over runs of scripts and over sessions. What a contract says isn't tested, nor what the stored run of the program
+//! goes through.
 #![tactic(auto)]
 
-#[cfg(test)]
-mod calls;
-#[cfg(test)]
-mod disk;
 #[cfg(test)]
 mod explained;
 #[cfg(test)]
@@ -13,10 +9,12 @@ mod failing;
 #[cfg(test)]
 mod impacts;
 #[cfg(test)]
-mod moved;
+mod limits;
 #[cfg(test)]
 mod runs;
 #[cfg(test)]
 mod scripts;
 #[cfg(test)]
-mod smaller;
+mod sessions;
+#[cfg(test)]
+mod unfailing;

@@ -167,6 +167,16 @@ SHOW FRESH figures;
 DROP TABLE figures;
 DROP TABLE copied;
 
+-- provenance: a subquery in ON, beside a row that it keeps without a partner
+CREATE TABLE r2 (a INTEGER, b TEXT);
+INSERT INTO r2 VALUES (1, 'x'), (2, 'y');
+CREATE TABLE s2 (c INTEGER);
+INSERT INTO s2 VALUES (1), (2);
+SELECT PROVENANCE r2.a, s2.c FROM r2 LEFT JOIN s2 ON r2.a = s2.c AND EXISTS (SELECT 1 FROM s2 z WHERE z.c < r2.a);
+
+-- which rows a deletion would take away
+IMPACT DELETE FROM r2 WHERE a > 1 OF SELECT b FROM r2;
+
 -- texts of rewritten queries
 EXPLAIN REWRITE SELECT total FROM totals ORDER BY total DESC LIMIT 1;
 EXPLAIN REWRITE SELECT PROVENANCE total FROM totals WHERE k = 1;

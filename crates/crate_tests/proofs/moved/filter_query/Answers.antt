@@ -1,7 +1,0 @@
-use Rattle.std.specs.Bool.{IsTrue}
-use Rattle.perm_values.proofs.Results.{where_made}
-use Rattle.bag_algebra.specs.Rewriting.{is_plain}
-use Rattle.crate_tests.proofs.moved.filter_query.Goals as goal
-
-pub returns : goal.returns
-returns c = where_made _ (λ p. IsTrue (is_plain p)) c.filter_moved-made.result (λ p r. r.plain) c.filter_moved-made.ensures.rewrites
