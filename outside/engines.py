@@ -1,10 +1,10 @@
 #!/usr/bin/env python3
 """Asks other engines through ./ask: engines.py [--seed N] [--queries N] [--alone].
 
-Each random query is answered by the program and printed by its EXPLAIN REWRITE. The text is run by the program, which has to give the
-same bytes; and ./ask asks SQLite and PostgreSQL, which have the same tables, for the query: it has to give the program's own bytes, the
-fault that the program meets, or a refusal that names what the engine can't do. PostgreSQL is a server of the script's own in a
-temporary folder; an engine that isn't there is left out with a word, and `--alone` leaves out both.
+Each random query is answered by the program. ./ask then asks SQLite and PostgreSQL, which have the same tables: it has to give the
+program's own bytes, the fault that the program meets, or a refusal that names what the engine can't do. PostgreSQL is a server of the
+script's own in a temporary folder; an engine that isn't there is left out with a word. `--alone` asks neither: the text of EXPLAIN
+REWRITE of each query is run by the program, which has to give the same bytes.
 """
 
 import argparse
@@ -148,12 +148,10 @@ def made_cases(made, setup, known, wanted):
         places = len(shape(node.input)) if isinstance(node, Provenance) else 0
         if len(text) > BYTES or places > PLACES or sublink_places(node) > SUBLINK_PLACES:
             continue
-        ran, told = run(f"{setup}{text};\n"), run(f"{setup}EXPLAIN REWRITE {text};\n")
-        if ran is None or told is None or len(ran[0]) > ROWS:
-            continue
-        wanted -= 1
-        printed = "\n".join(told[0][known:]) + "\n"
-        yield Case(text, resolved, ran[0][known:], ran[1], printed if told[1] == ANSWERED else "")
+        ran = run(f"{setup}{text};\n")
+        if ran is not None and len(ran[0]) <= ROWS:
+            wanted -= 1
+            yield Case(text, resolved, ran[0][known:], ran[1])
 
 
 def same_fault(case, made, given, status):
@@ -184,9 +182,11 @@ def compare_engine(engine, case, views, tables, totals):
     lines, status, said = engine.ask(f"{views}{case.text};\n")
     given = lines[views.count("CREATE VIEW"):]
     if (given, status) == (case.lines, case.status):
-        totals.told[f"{engine.name}: the same bytes" if status == ANSWERED else f"{engine.name}: the same fault"] += 1
+        totals.told[f"{engine.name}: the same bytes"] += 1
     elif case.status == FAULT and status == FAULT:
-        totals.told[f"{engine.name}: another fault of the statement"] += 1
+        # The scripts differ in front of the query, so do the offsets.
+        same = given[0].split()[1] == case.lines[0].split()[1]
+        totals.told[f"{engine.name}: {'the same fault' if same else 'another fault'}"] += 1
     elif case.status == FAULT and status == ANSWERED and LAX in said:
         totals.told[f"{engine.name}: rows where the program meets a fault, and says that this may be"] += 1
     elif status == FAULT:
@@ -203,17 +203,18 @@ def compare_database(made, engines, wanted, totals):
     tables = "".join(f"{statement};\n" for statement in made_tables)
     cases = list(made_cases(made, setup, len(made.statements), wanted))
     totals.done += len(cases)
-    for case in cases:
-        if case.printed:
-            read_back(case, made, tables, len(made_tables), totals)
-        else:
+    for case in [] if engines else cases:
+        told = run(f"{setup}EXPLAIN REWRITE {case.text};\n")
+        if told is None or told[1] != ANSWERED:
             totals.differs("perm", case, setup, ["isn't printed"])
-    printed = [case for case in cases if case.printed]
+            continue
+        case.printed = "\n".join(told[0][len(made.statements):]) + "\n"
+        read_back(case, made, tables, len(made_tables), totals)
     held = {table: (columns, made.tables[table]) for table, columns in made.catalog.tables.items()}
     views = "".join(f"{statement};\n" for statement in made.statements if statement.startswith("CREATE VIEW"))
     for engine in engines:
         engine.load(held)
-        for case in printed:
+        for case in cases:
             compare_engine(engine, case, views, tables, totals)
 
 

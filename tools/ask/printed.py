@@ -41,6 +41,10 @@ class Draft:
     def one_of(self, at, words):
         return 0 <= at < len(self) and self.tokens[at].kind == "word" and self.tokens[at].value.decode() in words
 
+    def is_from(self, at):
+        """Whether the clause FROM begins there, and not the end of IS NOT DISTINCT FROM."""
+        return self.word(at, "from") and not self.word(at - 1, "distinct")
+
     def mark(self, at, *marks):
         return 0 <= at < len(self) and self.tokens[at].kind == "mark" and self.tokens[at].value.decode() in marks
 

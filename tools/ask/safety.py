@@ -81,7 +81,7 @@ def is_source_comma(draft, at):
         depth += 1 if draft.mark(at, ")") else -1 if draft.mark(at, "(") else 0
         if depth < 0 or depth == 0 and draft.one_of(at, ("select", "where", "having")):
             return False
-        if depth == 0 and draft.word(at, "from"):
+        if depth == 0 and draft.is_from(at):
             return True
     return False
 

@@ -106,11 +106,11 @@ class Scopes:
                 at += 1
 
     def source(self, at, select):
-        first, name = at, None
+        first, name, outer = at, None, select.outer
         if self.draft.word(at, "lateral"):
-            at += 1
+            at, outer = at + 1, select
         if self.draft.mark(at, "("):
-            table, at = self.query(at + 1, select)
+            table, at = self.query(at + 1, outer)
         else:
             table = name = self.draft.name(at)
             self.bases.append(name)
@@ -122,7 +122,9 @@ class Scopes:
     def expression(self, at, select, clause, ends, through=False):
         """Goes over an expression, and over what stands behind commas where `through` says so, up to what ends it."""
         where = clause, len(select.clauses)
-        while at < len(self.draft) and not self.draft.mark(at, ")", ";") and not self.draft.one_of(at, ends):
+        while at < len(self.draft) and not self.draft.mark(at, ")", ";"):
+            if self.draft.one_of(at, ends) and not self.draft.word(at - 1, "distinct", "from"):
+                break
             if self.draft.mark(at, ",") and not through:
                 break
             if self.draft.mark(at, "("):
@@ -141,20 +143,21 @@ class Scopes:
         column, item = self.draft.name(last), self.draft.name(at) if last > at else None
         while select is not None:
             for source in select.sources:
-                if item is None and len(select.sources) == 1 or source.name == item:
-                    found = self.of_source(source, column)
+                found = self.of_source(source, column) if item in (None, source.name) else None
+                if found:
                     return Meaning(found.kind, found.whole and not select.padded(source, joins))
             select, joins = select.outer, None
         return Meaning()
 
     def of_source(self, source, column):
+        """What is known of a source's column; None where it has none of the name."""
         if isinstance(source.table, str):
-            return self.columns.get((source.table, column), Meaning())
+            return self.columns.get((source.table, column))
         first = source.table[0]
         for number, (_, last) in enumerate(first.items):
             if self.draft.name(last) == column:
                 return both([self.of_item(it, number) for it in source.table])
-        return Meaning()
+        return None
 
     def of_item(self, select, number):
         first, last = select.items[number]
@@ -186,6 +189,11 @@ class Scopes:
         """Sets what is known of the tables' columns, by the names of the table and the column."""
         self.columns = columns
         return self
+
+    def are_told(self):
+        """Whether each column is named with its table's name in front."""
+        draft = self.draft
+        return all(draft.mark(at - 1, ".") or draft.mark(at + 1, ".") or draft.word(at - 1, "as") for at in self.within)
 
     def names(self):
         """The names of the answer's columns."""

@@ -38,11 +38,13 @@ def sources(tokens):
         elif token.is_mark(b")"):
             if len(inside) > 1:
                 inside.pop()
+        elif token.is_word(b"from") and at and tokens[at - 1].is_word(b"distinct"):
+            continue
         elif token.kind == "word" and token.value in (b"from", b"where", b"group", b"having", b"order", b"select"):
             inside[-1] = token.value.decode()
         ahead = tokens[at - 1] if at else None
         if ahead and token.is_name() and token.value not in (RESERVED if token.kind == "word" else ()):
-            if ahead.is_word(b"from") or ahead.is_word(b"join") or ahead.is_mark(b",") and inside[-1] == "from":
+            if ahead.is_word(b"from") and inside[-1] == "from" or ahead.is_word(b"join") or ahead.is_mark(b",") and inside[-1] == "from":
                 found.append(at)
     return found
 

@@ -32,6 +32,7 @@ class Options:
     schemas: tuple = ()
     trusted: bool = False
     plain: bool = False
+    begin: object = None
 
 
 class Ended(Exception):
@@ -82,6 +83,9 @@ class Session:
         """Runs the script, and gives the status."""
         try:
             steps, refusal = settling.settle(self.options.program, self.script, tuple(self.prelude()), self.options.plain)
+            self.steps = steps
+            if self.options.begin:
+                self.options.begin(self)
             for number, step in enumerate(steps):
                 self.write(number, self.answered(step))
             if refusal:
@@ -90,10 +94,10 @@ class Session:
                 self.refuse_writing(self.statements[len(steps)])
         except Ended as ended:
             self.write(None, io.BytesIO(f"{ended.line}\n".encode()))
+            self.say_lax()
             self.say(told.note(self.name, self.script, ended.offset, ended.sentence))
             return ended.status
-        finally:
-            self.say_lax()
+        self.say_lax()
         return RAN
 
     def refuse(self, refusal):
@@ -150,6 +154,22 @@ class Session:
         if safe.faulty:
             self.lax.append(scripts.place(self.script, start)[0])
         return safe
+
+    def plain_answer(self, number):
+        """A file of what the query would answer without PROVENANCE; None where it has no such word, or that meets a fault."""
+        step = self.steps[number]
+        if not step.plain or step.kind != parts.QUERY:
+            return None
+        try:
+            safe = self.engine.safe(step.plain, self.tables)
+            return told.answer(safe.names, step.kinds[:len(safe.names)], self.engine.rows(safe.text))[0]
+        except (Failure, Unsayable):
+            return None
+
+    def columns_made(self, number):
+        """The names of the columns of the table or view that the statement made."""
+        step = self.steps[number]
+        return Scopes(Draft(step.text)).names() if step.text.startswith("SELECT") else step.columns
 
     def note_table(self, name):
         if name not in self.noted:

@@ -15,7 +15,7 @@ import scripts
 from . import script_parts as parts
 from .failures import NoDatabase
 from .printed import Draft
-from .scopes import KINDS
+from .scopes import KINDS, Scopes
 
 REFUSED = re.compile(rb"error (E\d\d)(?: at (\d+))?\n\Z")
 SPELLED = 3
@@ -40,6 +40,7 @@ class Step:
     text: str = ""
     kinds: list = field(default_factory=list)
     plain: str = ""
+    columns: list = field(default_factory=list)
 
 
 @dataclass
@@ -110,7 +111,8 @@ def pieces_for(script, statement, kind, number, views, mark, plain):
                 + without_word(script, query, number, True))
     impact = parts.Impact.of(statement) if kind == parts.IMPACT else None
     if impact is None:
-        return [Piece(own, "said", number, 0, statement.start)]
+        shown = [Piece(b"EXPLAIN REWRITE SELECT * FROM " + scripts.quoted(statement.made()), "columns", number)] if plain and kind == parts.VIEW else []
+        return [Piece(own, "said", number, 0, statement.start), *shown]
     made, query, dropped = parts.impact_texts(script, impact, views, mark)
     return ([Piece(own, "said", number, 0, statement.start)] + [Piece(it, "made", number) for it in made] + explained(query, number, None)
             + [Piece(it, "made", number) for it in dropped])
@@ -161,6 +163,8 @@ def keep(step, piece, text):
         step.text = text
     elif piece.role == "plain":
         step.plain = text
+    elif piece.role == "columns":
+        step.columns = Scopes(Draft(text)).names()
     elif piece.role == "kinds":
         step.kinds = kinds_of(text)
 

@@ -16,6 +16,7 @@ def safe(text, tables):
     scopes = Scopes(draft).with_columns(columns_of(tables))
     faulty = may_fault(draft)
     refuse_copies(draft)
+    names_alone(draft)
     by_bytes(draft)
     lateral_by_lists(draft, scopes)
     single_rows(draft)
@@ -32,6 +33,13 @@ def refuse_copies(draft):
     for word in ("intersect", "except"):
         if any(draft.word(at, word, "all") for at in range(len(draft))):
             raise Unsayable(f"SQLite has no {word.upper()} ALL, and this query needs it")
+
+
+def names_alone(draft):
+    """A name that SQLite doesn't know is a text to it where it stands in double quotes, but not in these."""
+    for at, token in enumerate(draft.tokens):
+        if token.kind == "name":
+            draft.replace(at, "`" + token.value.decode().replace("`", "``") + "`")
 
 
 def by_bytes(draft):
@@ -60,7 +68,7 @@ def lateral_by_lists(draft, scopes):
     for source in sources:
         if not draft.word(source.first, "lateral"):
             continue
-        if sum(it.name == source.name for it in sources) > 1:
+        if sum(it.name == source.name for it in sources) > 1 or not scopes.are_told():
             raise Unsayable("SQLite has no LATERAL, and this query, in which names are printed as numbers, can't be put otherwise")
         columns[source.name] = [draft.name(last) for _, last in source.table[0].items]
         listed = ", ".join(f"{quoted(rows)}.{quoted(it)}" for it in columns[source.name])
@@ -89,7 +97,7 @@ def last_item(draft, at):
     depth, inside = 0, at + 1
     while inside < draft.partner[at]:
         depth += 1 if draft.mark(inside, "(") else -1 if draft.mark(inside, ")") else 0
-        if depth == 0 and draft.one_of(inside, ("from", "union", "where", "order", "limit", "intersect", "except")):
+        if depth == 0 and (draft.is_from(inside) or draft.one_of(inside, ("union", "where", "order", "limit", "intersect", "except"))):
             return inside - 1
         inside += 1
     return inside - 1
