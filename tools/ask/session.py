@@ -87,7 +87,8 @@ class Session:
             if self.options.begin:
                 self.options.begin(self)
             for number, step in enumerate(steps):
-                self.write(number, self.answered(step))
+                with self.answered(step) as file:
+                    self.write(number, file)
             if refusal:
                 self.refuse(refusal)
             if len(steps) < len(self.statements):
