@@ -27,6 +27,9 @@ from ask.safety import Unsayable  # noqa: E402
 from ask.scopes import INTEGER, TEXT, Scopes  # noqa: E402
 from postgres import Postgres, binaries  # noqa: E402
 
+# From here on under the Python that has the library, if one has.
+with contextlib.suppress(NoDatabase):
+    on_postgres.with_driver()
 PROGRAM = os.environ.get("PERM") or str(TOP / "perm")
 SQLITE = sqlite3.sqlite_version_info >= (3, 39)
 R = {"r": Table("r", [Column("a", INTEGER, 't."a"', True), Column("b", TEXT, 't."b"'), Column("c", INTEGER, 't."c"')])}
