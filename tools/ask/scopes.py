@@ -52,7 +52,7 @@ class Scopes:
     """The SELECTs of a text. `bases` are the names of its tables in order, `within` tells the SELECT and clause of a token."""
 
     def __init__(self, draft):
-        self.draft, self.within, self.selects, self.bases = draft, {}, [], []
+        self.draft, self.within, self.selects, self.bases, self.known = draft, {}, [], [], {}
         self.top = self.query(0, None)[0]
 
     def query(self, at, outer):
@@ -153,6 +153,11 @@ class Scopes:
         """What is known of a source's column; None where it has none of the name."""
         if isinstance(source.table, str):
             return self.columns.get((source.table, column))
+        if (source, column) not in self.known:
+            self.known[source, column] = self.of_query(source, column)
+        return self.known[source, column]
+
+    def of_query(self, source, column):
         first = source.table[0]
         for number, (_, last) in enumerate(first.items):
             if self.draft.name(last) == column:

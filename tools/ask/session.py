@@ -82,8 +82,9 @@ class Session:
     def run(self):
         """Runs the script, and gives the status."""
         try:
-            steps, refusal = settling.settle(self.options.program, self.script, tuple(self.prelude()), self.options.plain)
+            steps, refusal, beside = settling.settle(self.options.program, self.script, tuple(self.prelude()), self.options.plain)
             self.steps = steps
+            self.say(beside)
             if self.options.begin:
                 self.options.begin(self)
             for number, step in enumerate(steps):

@@ -10,6 +10,7 @@ import tempfile
 from dataclasses import dataclass, field
 
 import answers
+import refusals
 import scripts
 
 from . import script_parts as parts
@@ -55,7 +56,7 @@ class Piece:
 
 
 def settle(program, script, prelude, plain=False):
-    """The steps up to the first statement that is refused or writes, and the refusal, if there is one."""
+    """The steps up to the first statement that is refused or writes, the refusal, if there is one, and what perm says beside."""
     statements = scripts.statements(script)
     mark = answers.free_mark(script)
     pieces = [Piece(it.encode(), "prelude") for it in prelude] + pieces_of(script, statements, mark, plain)
@@ -64,8 +65,13 @@ def settle(program, script, prelude, plain=False):
         refusal = unreadable(program, script)
         if refusal is None:
             raise NoDatabase(f"perm ends with status {told.status} at a script of its own: {told.said.decode(errors='replace').strip()}")
-        return [], refusal
-    return steps_of(statements, pieces, places, told, mark)
+        return [], refusal, beside(told)
+    return *steps_of(statements, pieces, places, told, mark), beside(told)
+
+
+def beside(told):
+    """What perm says beside its note on a refusal, as that its answers come from sources that aren't proved."""
+    return refusals.without_note(told.said).decode(errors="replace")
 
 
 def unreadable(program, script):
