@@ -401,7 +401,7 @@ class OnPostgres(Scripts):
         for number, where in enumerate(made):
             name = where.rsplit("=", 1)[1]
             text = text.replace(f"host 'shard{number}.example', dbname 'books'", f"host '{SERVER['held'].home}', dbname '{name}'")
-        coordinator = self.make(text)
+        coordinator = self.make(text.replace("(user 'books')", "(user 'bench')"))
         for line in own["books"].strip().splitlines():
             self.assertTrue(line.startswith('./ask "host=coordinator.example dbname=books'))
         options = re.search(r"options='[^']*'", own["books"])[0]

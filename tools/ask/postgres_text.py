@@ -1,4 +1,5 @@
 """Makes a printed text safe for PostgreSQL: a pass over its tokens. docs/DATABASES.md has the table of what it does."""
+from .laterals import as_joins
 from .printed import Draft, chains, quoted, steps
 from .safety import Safe, columns_of, may_fault, order_by_all, read_tables
 from .scopes import INTEGER, TEXT, Scopes
@@ -9,6 +10,7 @@ def safe(text, tables, bytewise=True):
     draft = Draft(text)
     scopes = Scopes(draft).with_columns(columns_of(tables))
     faulty = may_fault(draft)
+    as_joins(draft, scopes)
     keep_backslashes(draft)
     if not bytewise:
         collate_literals(draft)
@@ -60,6 +62,8 @@ def compare_by_equality(draft, scopes):
     as false, else by an equality of arrays, in which NULL is the same as NULL."""
     for at in range(len(draft)):
         if not draft.word(at, "is", "not", "distinct", "from") or not draft.is_name(at - 1) or not draft.is_name(at + 4):
+            continue
+        if not draft.said[at]:
             continue
         first, last = draft.first_of(at - 1), draft.last_of(at + 4)
         select, clause = scopes.within[at - 1]
