@@ -11,6 +11,7 @@ the first ones. A block ```said behind an answer is what the error stream says i
 import os
 import pathlib
 import re
+import sqlite3
 import subprocess
 import sys
 import tempfile
@@ -30,9 +31,27 @@ def run_text(program, text, folder):
     return run(program, "example.sql", folder)
 
 
+def ask_text(program, database, text, folder):
+    """What ./ask answers to the script over the database."""
+    pathlib.Path(folder, "example.sql").write_text(text)
+    done = subprocess.run([TOP / "ask", database, "example.sql"], cwd=folder, stdin=subprocess.DEVNULL, capture_output=True,
+                          env={**os.environ, "PERM": program})
+    return done.returncode, done.stdout.decode(), done.stderr.decode()
+
+
+def make_database(path, statements):
+    held = sqlite3.connect(path)
+    held.executescript(statements)
+    held.close()
+
+
 def mistake(program, words, script, answer, said, status, folder):
     """Why the example is wrong; None where it is right."""
-    if len(words) > 1:
+    if words[0] == "ask":
+        ended, written, told = ask_text(program, words[1], script, folder)
+        if written != answer:
+            return f"it answers\n{written}{told}"
+    elif len(words) > 1:
         lines = iter((TOP / words[1]).read_text().splitlines())
         if not all(line in lines for line in script.splitlines()):
             return f"it isn't of lines of {words[1]}"
@@ -81,9 +100,11 @@ def check(program, document, folder):
         words = block[1].split()
         if words[:1] == ["csv"]:
             pathlib.Path(folder, words[1]).write_text(block[2])
+        if words[:1] == ["sqlite"]:
+            make_database(os.path.join(folder, words[1]), block[2])
         if words == ["refusals"]:
             found, reasons = mistaken_refusals(program, block[2], folder)
-        elif words[:1] == ["sql"]:
+        elif words[:1] in (["sql"], ["ask"]):
             status = re.search(r"status (\d)", text[block.end():behind.start()]) if behind else None
             found, reasons = 1, ["no answer stands behind it"]
             if behind and not behind[1]:

@@ -1,20 +1,22 @@
 #!/usr/bin/env python3
-"""Runs the texts of EXPLAIN REWRITE on other engines: engines.py [--seed N] [--queries N] [--alone].
+"""Asks other engines through ./ask: engines.py [--seed N] [--queries N] [--alone].
 
-Each random query is answered by the program and printed by its EXPLAIN REWRITE, and the text is run unchanged: by the program,
-which has to give the same bytes, and by SQLite and PostgreSQL, which have the same tables and have to give the same rows. What
-an engine can't say is counted by what it answers. PostgreSQL is a server of the script's own in a temporary folder; an engine
-that isn't there is left out with a word, and `--alone` leaves out both.
+Each random query is answered by the program. ./ask then asks SQLite and PostgreSQL, which have the same tables: it has to give the
+program's own bytes, the fault that the program meets, or a refusal that names what the engine can't do. PostgreSQL is a server of the
+script's own in a temporary folder; an engine that isn't there is left out with a word. `--alone` asks neither: the text of EXPLAIN
+REWRITE of each query is run by the program, which has to give the same bytes.
 """
 
 import argparse
 import contextlib
-import csv
+import functools
 import os
+import pathlib
 import re
 import sqlite3
-import subprocess
 import sys
+import tempfile
+import time
 from collections import Counter
 from dataclasses import dataclass, field
 
@@ -26,23 +28,24 @@ from reference.names import Refused
 from reference.text import name, text_literal, write_query
 from reference.tree import INTEGER, Provenance, shape
 
-sys.path.append(os.path.join(TOP, "bench"))
+sys.path += [os.path.join(TOP, "bench"), os.path.join(TOP, "tools")]
+from ask import session, settling  # noqa: E402
+from ask.failures import NoDatabase  # noqa: E402
+from ask.on_postgres import PostgreSQL, with_driver  # noqa: E402
+from ask.on_sqlite import Sqlite  # noqa: E402
 from postgres import Postgres, binaries  # noqa: E402
 
 BATCH = 30
 ROWS = 1500
-ANSWERED, FAULT = 0, 5
+SECONDS = 5
+ANSWERED, REFUSED, FAULT, ENGINE = 0, 4, 5, session.ENGINE
 # What the program says of a text that nests deeper, or is larger, than a script may be.
 TOO_DEEP = re.compile(r"error E(06|27) ")
-NOTHING = "\\N"
-LINE = re.compile(r'"((?:[^"]|"")*)"|([^,]*)')
-SUM = re.compile(r"\bSUM ?\(")
-# What a printed text sorts by, places; where NULL stands there is the program's rule, and PostgreSQL's. SQLite's is the other one.
-SORTED = re.compile(r"(\bORDER BY )(\d+(?: DESC)?(?:,\s+\d+(?: DESC)?)*)(?=;?$|\)| LIMIT \d)", re.M)
-
-
-class Unsaid(Exception):
-    """What an engine answers in the place of rows."""
+# What ./ask says of statements of which an operand may meet a fault.
+LAX = "where perm would meet a fault it may answer"
+NAMED = re.compile(r"at line \d+|\"[^\"]*\"|\d+:\d+")
+# Both engines are asked for the same texts.
+settling.settle = functools.lru_cache(maxsize=4)(settling.settle)
 
 
 @dataclass
@@ -54,14 +57,6 @@ class Case:
     lines: list
     status: int
     printed: str = ""
-
-    def rows(self):
-        return [parsed(line) for line in self.lines[1:-1]]
-
-    def has(self, given):
-        """Whether an engine's rows are the answer's, each as often."""
-        rows = self.rows()
-        return Counter(rows) == Counter(tuple(map(like, row, models(rows) or [None] * len(row))) for row in given)
 
 
 @dataclass
@@ -75,93 +70,57 @@ class Totals:
         self.differences.append((engine, f"{setup}{case.text};\n{case.printed}", case.lines, given))
 
 
-def parsed(line):
-    """The fields of an answer's line: None for NULL, else the kind's letter and what is written."""
-    fields, at = [], 0
-    while True:
-        found = LINE.match(line, at)
-        quoted, bare = found.groups()
-        fields.append(("text", quoted.replace('""', '"')) if quoted is not None else ("bare", bare) if bare else None)
-        at = found.end() + 1
-        if at > len(line):
-            return tuple(fields)
+class Asked:
+    """An engine that ./ask asks, with the tables of one random database at a time."""
+
+    def ask(self, script):
+        """The lines that ./ask answers, its status, and what it says beside."""
+        answered, said = [], []
+        options = session.Options(PROGRAM, trusted=True)
+        status = session.run_over(self.engine, "asked.sql", script.encode(), options, lambda _, file: answered.append(file.read()), said.append)
+        return b"".join(answered).decode().split("\n")[:-1], status, "".join(said)
+
+    def close(self):
+        if self.engine:
+            self.engine.close()
+            self.engine = None
 
 
-def like(value, model):
-    """An engine's value as the program writes one of the model's kind; truth values have no kind of their own in SQLite."""
-    if value is None:
-        return None
-    if model == ("bare", "true") or model == ("bare", "false"):
-        return "bare", {"1": "true", "0": "false", "t": "true", "f": "false"}.get(str(value), str(value))
-    return (model[0] if model else "bare"), str(value)
+class OnSqlite(Asked):
+    name, integer, engine = "SQLite", "INTEGER", None
 
-
-def models(rows):
-    """For each column a value of it that isn't NULL, where it has one."""
-    return [next((value for value in column if value is not None), None) for column in zip(*rows)]
-
-
-def nulls_told(text):
-    """The text with the place of NULL said in each ORDER BY, as its dialect has it."""
-    return SORTED.sub(lambda found: found[1] + ", ".join(
-        f"{key} NULLS {'FIRST' if key.endswith('DESC') else 'LAST'}" for key in re.split(r",\s+", found[2])), text)
-
-
-def sums_whole(text):
-    """The text with each SUM made an integer of 64 bits again, so that what divides it leaves no fraction."""
-    for found in reversed(list(SUM.finditer(text))):
-        depth, end = 1, found.end()
-        while depth > 0:
-            depth += {"(": 1, ")": -1}.get(text[end], 0)
-            end += 1
-        text = f"{text[:found.start()]}CAST({text[found.start():end]} AS BIGINT){text[end:]}"
-    return text
-
-
-class Sqlite:
-    name = "SQLite"
-    silent = {"LIMIT meets NULL first": nulls_told}
+    def __init__(self, stack):
+        self.path = os.path.join(stack.enter_context(tempfile.TemporaryDirectory()), "asked.db")
+        stack.callback(self.close)
 
     def load(self, tables):
-        self.held = sqlite3.connect(":memory:")
-        self.held.execute("PRAGMA case_sensitive_like = ON")
-        for statement in statements_of(tables, "INTEGER"):
-            self.held.execute(statement)
+        self.close()
+        pathlib.Path(self.path).unlink(missing_ok=True)
+        with contextlib.closing(sqlite3.connect(self.path)) as held:
+            for statement in statements_of(tables, self.integer):
+                held.execute(statement)
+            held.commit()
+        self.engine = Sqlite(self.path)
 
-    def all_rows(self, texts):
-        return [self.rows(text) for text in texts]
-
-    def rows(self, text):
-        try:
-            return self.held.execute(text).fetchall()
-        except (sqlite3.Error, OverflowError) as error:
-            return Unsaid(re.sub(r'"[^"]*"', "..", str(error)) if "syntax" not in str(error) else str(error))
+    def ask(self, script):
+        began = time.monotonic()
+        self.engine.held.set_progress_handler(lambda: time.monotonic() - began > SECONDS, 100_000)
+        return super().ask(script)
 
 
-class Server(Postgres):
-    """PostgreSQL with the tables of one random database at a time."""
+class OnPostgres(Asked):
+    name, integer, engine = "PostgreSQL", "BIGINT", None
 
-    MARK = "---- engines"
-    silent = {"a SUM's quotient has a fraction": sums_whole}
+    def __init__(self, stack, paths):
+        self.where = f"host={stack.enter_context(Postgres(paths)).home} user=bench dbname=postgres"
+        stack.callback(self.close)
 
     def load(self, tables):
-        self.loading = "DROP SCHEMA public CASCADE;\nCREATE SCHEMA public;\n" + "".join(
-            f"{statement};\n" for statement in statements_of(tables, "BIGINT"))
-
-    def all_rows(self, texts):
-        asked = "".join(f"\\echo '{self.MARK}'\n{text}\n\\echo '{self.MARK}' :ERROR :SQLSTATE :LAST_ERROR_MESSAGE\n" for text in texts)
-        script = f"SET client_min_messages = error;\nSET statement_timeout = '5s';\n{self.loading}{asked}"
-        told = subprocess.run(self.psql("--csv", "-P", f"null={NOTHING}", "-v", "ON_ERROR_STOP=0"), input=script, text=True,
-                              capture_output=True, check=False).stdout
-        parts = re.split(rf"^{self.MARK}(.*)\n", told, flags=re.M)
-        return [self.read(parts[4 * at + 2], parts[4 * at + 3].strip()) for at in range(len(texts))]
-
-    @staticmethod
-    def read(rows, ended):
-        if not ended.startswith("false"):
-            return Unsaid(ended.split(" ", 2)[2].split("\n")[0] if ended.count(" ") > 1 else ended)
-        # A line without anything is a row of one empty text.
-        return [tuple(None if value == NOTHING else value for value in row or [""]) for row in csv.reader(rows.splitlines())]
+        self.close()
+        with contextlib.closing(with_driver().connect(self.where)) as held:
+            held.cursor().execute("DROP SCHEMA public CASCADE; CREATE SCHEMA public;" + ";".join(statements_of(tables, self.integer)))
+            held.commit()
+        self.engine = PostgreSQL(f"{self.where} options='-c statement_timeout={SECONDS * 1000}'")
 
 
 def statements_of(tables, integer):
@@ -189,12 +148,10 @@ def made_cases(made, setup, known, wanted):
         places = len(shape(node.input)) if isinstance(node, Provenance) else 0
         if len(text) > BYTES or places > PLACES or sublink_places(node) > SUBLINK_PLACES:
             continue
-        ran, told = run(f"{setup}{text};\n"), run(f"{setup}EXPLAIN REWRITE {text};\n")
-        if ran is None or told is None or len(ran[0]) > ROWS:
-            continue
-        wanted -= 1
-        printed = "\n".join(told[0][known:]) + "\n"
-        yield Case(text, resolved, ran[0][known:], ran[1], printed if told[1] == ANSWERED else "")
+        ran = run(f"{setup}{text};\n")
+        if ran is not None and len(ran[0]) <= ROWS:
+            wanted -= 1
+            yield Case(text, resolved, ran[0][known:], ran[1])
 
 
 def same_fault(case, made, given, status):
@@ -220,23 +177,24 @@ def read_back(case, made, tables, known, totals):
         totals.differs("perm", case, tables, given + [f"status {status}"])
 
 
-def compare_engine(engine, case, tables, given, totals):
-    """An engine's rows beside the program's, as often as they stand."""
-    if isinstance(given, Unsaid):
-        what = "both meet a fault" if case.status == FAULT else f"doesn't answer: {given}"
-        totals.told[f"{engine.name}: {what}"] += 1
-    elif case.status == FAULT:
-        totals.told[f"{engine.name}: answers where the program meets a fault"] += 1
-    elif case.has(given):
-        totals.told[f"{engine.name}: same"] += 1
+def compare_engine(engine, case, views, tables, totals):
+    """What ./ask answers over an engine beside the program's answer."""
+    lines, status, said = engine.ask(f"{views}{case.text};\n")
+    given = lines[views.count("CREATE VIEW"):]
+    if (given, status) == (case.lines, case.status):
+        totals.told[f"{engine.name}: the same bytes"] += 1
+    elif case.status == FAULT and status == FAULT:
+        # The scripts differ in front of the query, so do the offsets.
+        same = given[0].split()[1] == case.lines[0].split()[1]
+        totals.told[f"{engine.name}: {'the same fault' if same else 'another fault'}"] += 1
+    elif case.status == FAULT and status == ANSWERED and LAX in said:
+        totals.told[f"{engine.name}: rows where the program meets a fault, and says that this may be"] += 1
+    elif status == FAULT:
+        totals.told[f"{engine.name}: a fault there alone: {said.split(' says: ')[1].splitlines()[0]}"] += 1
+    elif status in (REFUSED, ENGINE):
+        totals.told[f"{engine.name}: refused: {NAMED.sub('..', said.splitlines()[0].split(': ', 1)[1])}"] += 1
     else:
-        # What a rule of the engine's own explains: the text that says otherwise has the program's rows there.
-        for why, said in engine.silent.items():
-            again = engine.all_rows([said(case.printed)])[0]
-            if not isinstance(again, Unsaid) and case.has(again):
-                totals.told[f"{engine.name}: other rows, since {why}"] += 1
-                return
-        totals.differs(engine.name, case, tables, [repr(row) for row in given])
+        totals.differs(engine.name, case, tables, given + [f"status {status}", said])
 
 
 def compare_database(made, engines, wanted, totals):
@@ -245,17 +203,19 @@ def compare_database(made, engines, wanted, totals):
     tables = "".join(f"{statement};\n" for statement in made_tables)
     cases = list(made_cases(made, setup, len(made.statements), wanted))
     totals.done += len(cases)
-    for case in cases:
-        if case.printed:
-            read_back(case, made, tables, len(made_tables), totals)
-        else:
+    for case in [] if engines else cases:
+        told = run(f"{setup}EXPLAIN REWRITE {case.text};\n")
+        if told is None or told[1] != ANSWERED:
             totals.differs("perm", case, setup, ["isn't printed"])
-    printed = [case for case in cases if case.printed]
+            continue
+        case.printed = "\n".join(told[0][len(made.statements):]) + "\n"
+        read_back(case, made, tables, len(made_tables), totals)
     held = {table: (columns, made.tables[table]) for table, columns in made.catalog.tables.items()}
+    views = "".join(f"{statement};\n" for statement in made.statements if statement.startswith("CREATE VIEW"))
     for engine in engines:
         engine.load(held)
-        for case, given in zip(printed, engine.all_rows([case.printed for case in printed])):
-            compare_engine(engine, case, tables, given, totals)
+        for case in cases:
+            compare_engine(engine, case, views, tables, totals)
 
 
 def there(alone, stack):
@@ -263,9 +223,14 @@ def there(alone, stack):
     if alone:
         return []
     paths = binaries()
+    try:
+        paths = with_driver() and paths
+    except NoDatabase as error:
+        print(f"outside: {error}", file=sys.stderr)
+        paths = None
     if not paths:
         print("outside: PostgreSQL isn't there, and left out", file=sys.stderr)
-    return [Sqlite()] + ([stack.enter_context(Server(paths))] if paths else [])
+    return [OnSqlite(stack)] + ([OnPostgres(stack, paths)] if paths else [])
 
 
 def main():

@@ -28,6 +28,8 @@ ENDED = {
     7: "A file couldn't be read, so the script ended there.",
     8: "The output failed, so not all may stand here.",
     9: "Memory was wanting, so not all may stand here.",
+    10: "The database refused a statement, so the script ended there.",
+    11: "The database couldn't be asked, so not all may stand here.",
 }
 
 
