@@ -4,8 +4,8 @@ ghost use Rattle.refusal_notes.specs.places.Places.{back_to_feed, begins_charact
 ghost use Rattle.refusal_notes.specs.Excerpts.{behind_at, behind_piece, blank, continued, excerpt, front_at, front_piece, shown};
 
 use crate::places::{begins_character, line_at};
-use crate::read::from;
 use perm_values::{Bytes, NoMemory};
+use refusal_hints::from;
 use std::alloc::Global;
 
 /// How many bytes of the line are shown to each side of the place, at about.
@@ -76,7 +76,7 @@ fn front_piece(alloc: Global, front: &[u8]) -> Result<Bytes, NoMemory>
 }
 
 /// The beginning of the rest, as it is shown.
-fn behind_piece(alloc: Global, behind: &[u8]) -> Result<Bytes, NoMemory>
+pub(crate) fn behind_piece(alloc: Global, behind: &[u8]) -> Result<Bytes, NoMemory>
     ensures { IfOk result (λ piece. piece ≡ behind_piece behind.now) }
 {
     let mut piece = Bytes::new(alloc);

@@ -3,8 +3,8 @@ ghost use Rattle.std.specs.Prelude.{◌≡◌, ◌↔◌, ◌++◌, IsTrue, code
 ghost use Rattle.refusal_notes.specs.Causes.{line_of};
 
 use crate::cause::Cause;
-use crate::read::up_to;
 use csv_tables::{data_line, error_line};
+use refusal_hints::up_to;
 
 /// Whether the line, without its line feed, is the cause's.
 pub(crate) fn is_line(cause: Cause, line: &[u8]) -> bool

@@ -3,11 +3,13 @@ ghost use Rattle.std.specs.Prelude.{◌≡◌, ◌++◌, IfOk, OnOk};
 ghost use Rattle.std.specs.Fmt.{decimal};
 ghost use Rattle.csv_tables.specs.Lines.{two_digits};
 ghost use Rattle.refusal_notes.specs.Excerpts.{excerpt};
+ghost use Rattle.refusal_notes.specs.Hints.{integer_hints, place_hint, text_hint, width_hints};
 ghost use Rattle.refusal_notes.specs.Notes.{data_note, field_in, note_of, place_in, record_in, told_at};
 ghost use Rattle.refusal_notes.specs.Sentences.{sentence};
 
 use crate::cause::Cause;
 use crate::excerpt::{add_excerpt, shown_text};
+use crate::hints::{add_integer_hints, add_place_hint, add_width_hints};
 use crate::places::place_of;
 use crate::sentence::sentence;
 use csv_tables::DataError;
@@ -15,34 +17,70 @@ use itoa::Buffer;
 use perm_values::{Bytes, NoMemory};
 use std::alloc::Global;
 
-/// The note on a cause, with the name of the file that it speaks of, and of one at an offset the script. A number that no cause has
-/// gives none. It fails only for want of memory.
-pub fn note(alloc: Global, cause: Cause, name: &[u8], script: &[u8]) -> Result<Bytes, NoMemory>
-    ensures { IfOk result (λ note. note ≡ note_of cause name.now script.now) }
+/// The note on a cause, with the name and the bytes of the file that it speaks of, the script or a CSV file, and with the name of the
+/// file that was copied last. A number that no cause has gives none. It fails only for want of memory.
+pub fn note(
+    alloc: Global,
+    cause: Cause,
+    name: &[u8],
+    text: &[u8],
+    copied: &[u8],
+) -> Result<Bytes, NoMemory>
+    ensures { IfOk result (λ note. note ≡ note_of cause name.now text.now copied.now) }
 {
     match cause {
-        Cause::At { code, at } => script_note(alloc, name, script, code, at),
+        Cause::At { code, at } => script_note(alloc, name, text, copied, code, at),
         Cause::NoScript => told_at(alloc, name, 40),
         Cause::LongScript => told_at(alloc, name, 41),
-        Cause::Data(error) => data_note(alloc, name, error),
+        Cause::Data(error) => data_note(alloc, name, text, error),
         Cause::Unread => told_at(alloc, name, 50),
     }
 }
 
 /// The note on what is wrong with a file's records; want of memory has none.
-fn data_note(alloc: Global, name: &[u8], error: DataError) -> Result<Bytes, NoMemory>
-    ensures { IfOk result (λ note. note ≡ data_note name.now error) }
+fn data_note(alloc: Global, name: &[u8], text: &[u8], error: DataError) -> Result<Bytes, NoMemory>
+    ensures { IfOk result (λ note. note ≡ data_note name.now text.now error) }
 {
     match error {
-        DataError::Width { row } => told_at(alloc, record_in(alloc, name, row)?.as_slice(), 42),
-        DataError::NotInteger { row, field } => {
-            told_at(alloc, field_in(alloc, name, row, field)?.as_slice(), 43)
-        }
-        DataError::NotText { row, field } => {
-            told_at(alloc, field_in(alloc, name, row, field)?.as_slice(), 44)
-        }
+        DataError::Width { row } => width_note(alloc, name, text, row),
+        DataError::NotInteger { row, field } => integer_note(alloc, name, text, row, field),
+        DataError::NotText { row, field } => text_note(alloc, name, row, field),
         DataError::NoMemory => Ok(Bytes::new(alloc)),
     }
+}
+
+/// The note on a record with another number of fields than is needed.
+fn width_note(alloc: Global, name: &[u8], text: &[u8], row: u64) -> Result<Bytes, NoMemory>
+    ensures { IfOk result (λ note. note ≡ told_at (record_in name.now row) 42 ++ width_hints text.now row) }
+{
+    let mut note = told_at(alloc, record_in(alloc, name, row)?.as_slice(), 42)?;
+    add_width_hints(alloc, &mut note, text, row)?;
+    Ok(note)
+}
+
+/// The note on a field that is no integer.
+fn integer_note(
+    alloc: Global,
+    name: &[u8],
+    text: &[u8],
+    row: u64,
+    field: u64,
+) -> Result<Bytes, NoMemory>
+    ensures { IfOk result (λ note.
+        note ≡ told_at (field_in name.now row field) 43 ++ integer_hints text.now row field) }
+{
+    let mut note = told_at(alloc, field_in(alloc, name, row, field)?.as_slice(), 43)?;
+    add_integer_hints(alloc, &mut note, text, row, field)?;
+    Ok(note)
+}
+
+/// The note on a field that is no text.
+fn text_note(alloc: Global, name: &[u8], row: u64, field: u64) -> Result<Bytes, NoMemory>
+    ensures { IfOk result (λ note. note ≡ told_at (field_in name.now row field) 44 ++ text_hint) }
+{
+    let mut note = told_at(alloc, field_in(alloc, name, row, field)?.as_slice(), 44)?;
+    note.add(b"hint: save the file as UTF-8\n")?;
+    Ok(note)
 }
 
 /// The note on what stands at an offset of a script.
@@ -50,10 +88,12 @@ fn script_note(
     alloc: Global,
     name: &[u8],
     script: &[u8],
+    copied: &[u8],
     code: u8,
     at: usize,
 ) -> Result<Bytes, NoMemory>
-    ensures { IfOk result (λ note. note ≡ note_of (Cause.At code at) name.now script.now) }
+    ensures { IfOk result (λ note.
+        note ≡ note_of (Cause.At code at) name.now script.now copied.now) }
 {
     if sentence(code).is_empty() {
         return Ok(Bytes::new(alloc));
@@ -61,6 +101,7 @@ fn script_note(
     let place = place_in(alloc, name, script, at)?;
     let mut note = told_at(alloc, place.as_slice(), code)?;
     add_excerpt(alloc, &mut note, script, at)?;
+    add_place_hint(alloc, &mut note, code, script, at, copied)?;
     Ok(note)
 }
 
@@ -126,7 +167,7 @@ fn add_two_digits(text: &mut Bytes, number: u8) -> Result<(), NoMemory>
 }
 
 /// Adds a number.
-fn add_number(text: &mut Bytes, number: u64) -> Result<(), NoMemory>
+pub(crate) fn add_number(text: &mut Bytes, number: u64) -> Result<(), NoMemory>
     ensures { OnOk result (text.new ≡ text.old ++ decimal number) }
 {
     let mut buffer = Buffer::new();

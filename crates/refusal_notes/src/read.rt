@@ -1,5 +1,5 @@
 //! The cause that a line names, read back.
-ghost use Rattle.std.specs.Prelude.{◌≡◌, ◌≤◌, ◌<◌, ◌^◌, ◌+◌, ◌∷◌, ◌++◌, ℕ, List, length, take, drop, IfSome, Some, codes};
+ghost use Rattle.std.specs.Prelude.{◌≡◌, ◌≤◌, ◌<◌, ◌^◌, ◌+◌, ◌∷◌, ◌++◌, ℕ, List, length, IfSome, Some, codes};
 ghost use Rattle.std.specs.List.{prefix_len};
 ghost use Rattle.std.specs.Fmt.{decimal};
 ghost use Rattle.csv_tables.specs.Lines.{data_line, error_line};
@@ -11,6 +11,7 @@ ghost use Rattle.refusal_notes.specs.declared.cause.Cause.TheVariants.{At, Data}
 use crate::cause::Cause;
 use crate::line::is_line;
 use csv_tables::DataError;
+use refusal_hints::{from, up_to};
 
 /// The cause whose line this is, without its line feed; `None` where it is no cause's.
 pub fn cause_of(line: &[u8]) -> Option<Cause>
@@ -139,18 +140,4 @@ fn byte_at(line: &[u8], at: usize) -> u8
     ensures none { length line.now ≤ at → result ≡ 0 }
 {
     if at < line.len() { line[at] } else { 0 }
-}
-
-/// What stands from there on; nothing behind the end.
-pub(crate) fn from(line: &[u8], at: usize) -> &[u8]
-    ensures { result.now ≡ drop at line.now }
-{
-    if at < line.len() { &line[at..] } else { &[] }
-}
-
-/// What stands in front of that place; all of it, where it ends before.
-pub(crate) fn up_to(line: &[u8], at: usize) -> &[u8]
-    ensures { result.now ≡ take at line.now }
-{
-    if at < line.len() { &line[..at] } else { line }
 }

@@ -29,6 +29,7 @@ pub mod ReadColumns
 pub mod ReplacedQueries
 pub mod RewrittenRows
 pub mod Rows
+pub mod RefusalHints
 pub mod RefusalNotes
 pub mod ScriptPlaces
 pub mod SetRows

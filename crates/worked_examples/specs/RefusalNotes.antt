@@ -17,33 +17,33 @@ line = 9 ∷ codes "FROM " ++ 195 ∷ 169 ∷ codes ", r;"
 abbrev script : List ℕ
 script = codes "SELECT a\n" ++ line ++ codes "\n"
 
-unknown-column : note_of (At 11 7) name script ≡ codes "report.sql:1:8: no column of this name (E11)\nSELECT a\n       ^\n"
+unknown-column : note_of (At 11 7) name script [] ≡ codes "report.sql:1:8: no column of this name (E11)\nSELECT a\n       ^\n"
 unfolding digits
 unknown-column = refl
 
 -- a tab stands under the tab, and one blank under the two bytes
-unknown-table : note_of (At 10 19) name script ≡ codes "report.sql:2:10: no table or view of this name (E10)\n" ++ line ++ codes "\n" ++ 9 ∷ codes "        ^\n"
+unknown-table : note_of (At 10 19) name script [] ≡ codes "report.sql:2:10: no table or view of this name (E10)\n" ++ line ++ codes "\n" ++ 9 ∷ codes "        ^\n"
 unfolding digits
 unknown-table = refl
 
 -- a number that no cause has
-no-cause : note_of (At 7 19) name script ≡ []
+no-cause : note_of (At 7 19) name script [] ≡ []
 unfolding digits
 no-cause = refl
 
-no-script : note_of NoScript name [] ≡ codes "report.sql: there is no file of the name that is given (E40)\n"
+no-script : note_of NoScript name [] [] ≡ codes "report.sql: there is no file of the name that is given (E40)\n"
 unfolding digits
 no-script = refl
 
-unread-file : note_of Unread (codes "a.csv") [] ≡ codes "a.csv: this file couldn't be opened or read (E50)\n"
+unread-file : note_of Unread (codes "a.csv") [] [] ≡ codes "a.csv: this file couldn't be opened or read (E50)\n"
 unfolding digits
 unread-file = refl
 
-wide-record : note_of (Data (Width 12)) (codes "a.csv") [] ≡ codes "a.csv: record 12: this record has another number of fields than the table has columns (E42)\n"
+wide-record : note_of (Data (Width 12)) (codes "a.csv") [] [] ≡ codes "a.csv: record 12: this record has another number of fields than the table has columns (E42)\n"
 unfolding digits
 wide-record = refl
 
-binary-field : note_of (Data (NotText 3 2)) (codes "a.csv") [] ≡ codes "a.csv: record 3, field 2: this field isn't UTF-8 (E44)\n"
+binary-field : note_of (Data (NotText 3 2)) (codes "a.csv") [] [] ≡ codes "a.csv: record 3, field 2: this field isn't UTF-8 (E44)\nhint: save the file as UTF-8\n"
 unfolding digits
 binary-field = refl
 
