@@ -244,7 +244,8 @@ def checksum(text):
 def page(name, script, told, known):
     style, code = ((HERE / file).read_text() for file in ("page.css", "page.js"))
     policy = f"default-src 'none'; style-src {checksum(style)}; script-src {checksum(code)}; base-uri 'none'; form-action 'none'"
-    said = "".join(f"<p class=note>{read(line)}</p>\n" for line in refusals.without_note(told.said).splitlines()[:20])
+    lines = [it for it in refusals.without_note(told.said).splitlines() if not it.startswith(b"perm: .. ")]
+    said = "".join(f"<p class=note>{read(line)}</p>\n" for line in lines[:20])
     lead = ENDED.get(told.status, "The program gave no answer.")
     return (
         f'<!doctype html>\n<html lang=en>\n<head>\n<meta charset=utf-8>\n<meta http-equiv=Content-Security-Policy content="{policy}">\n'
