@@ -60,12 +60,14 @@ def table(text):
 
 @dataclass
 class Answer:
-    """What a statement answered. `plain` is what it answers without the word PROVENANCE, where it has that."""
+    """What a statement answered. `plain` is what it answers without the word PROVENANCE, where it has that; `equal` has for each table
+    whose equal rows were asked for the names of its columns, and how often each row stands that stands several times."""
 
     statement: scripts.Statement
     text: bytes
     plain: Table | None = None
     relations: dict = field(default_factory=dict)
+    equal: dict = field(default_factory=dict)
 
 
 @dataclass
@@ -85,22 +87,50 @@ def run(program, script):
 
 @dataclass(frozen=True)
 class Question:
-    """A query of our own behind the statement of this number: of the columns of what it made, or of its plain answer."""
+    """A query of our own behind the statement of this number: of the columns of what it made, of its plain answer, or, with the table's name,
+    of the rows of a table that stand several times."""
 
     statement: int
     text: bytes
+    table: bytes | None = None
+
+
+def without_word(script, statement, word):
+    """The text of the query without the word PROVENANCE, as long as with it."""
+    return script[statement.start:word.start] + b" " * (word.end - word.start) + script[word.end:statement.end]
+
+
+def of_equal_rows(table, columns):
+    names = b", ".join(map(scripts.quoted, columns))
+    return b"SELECT %s, COUNT(*) FROM %s GROUP BY %s HAVING COUNT(*) > 1" % (names, scripts.quoted(table), names)
 
 
 def questions(script, statements):
-    found = []
+    found, tables, changed = [], {}, set()
     for number, statement in enumerate(statements):
         word = statement.provenance()
         if word:
-            text = script[statement.start:word.start] + b" " * (word.end - word.start) + script[word.end:statement.end]
-            found.append(Question(number, text))
+            found.append(Question(number, without_word(script, statement, word)))
+            found += [Question(number, of_equal_rows(it, tables[it]), it) for it in sorted(changed)]
+            changed.clear()
         elif statement.made():
             found.append(Question(number, b"SELECT * FROM " + scripts.quoted(statement.made()) + b" LIMIT 0"))
+        note_tables(statement, tables, changed)
     return found
+
+
+def note_tables(statement, tables, changed):
+    """Keeps which tables there are, with their columns, and which of them changed since they were asked of."""
+    name = statement.changed()
+    if name is None:
+        return
+    if statement.begins(b"drop") or statement.begins(b"create"):
+        tables.pop(name, None)
+        changed.discard(name)
+    if statement.columns():
+        tables[name] = statement.columns()
+    if name in tables:
+        changed.add(name)
 
 
 def asked_script(script, statements, asked, mark):
@@ -170,15 +200,23 @@ def ask(program, script, told):
 
 
 def joined(statements, order, moved, found, told):
-    answers, relations = [], {}
+    answers, relations, equal = [], {}, {}
     for item, text in zip(order, found):
         if isinstance(item, int):
             statement = statements[item]
-            answers.append(Answer(statement, moved_back(text, statement, moved[item]), relations=dict(relations)))
+            equal.pop(statement.changed() and statement.changed().decode(), None)
+            answers.append(Answer(statement, moved_back(text, statement, moved[item]), relations=dict(relations), equal=dict(equal)))
             continue
         answered = table(text)
-        if statements[item.statement].provenance():
+        if item.table is not None and answered:
+            equal[item.table.decode()] = answers[-1].equal[item.table.decode()] = counts(answered)
+        elif statements[item.statement].provenance():
             answers[-1].plain = answered
         elif answered:
             relations.setdefault(statements[item.statement].made().decode(), []).append(answered.names)
     return answers if b"".join(it.text for it in answers) == told.written else None
+
+
+def counts(answered):
+    """The names of a table's columns, and how often each row stands that stands several times."""
+    return tuple(answered.names[:-1]), {row[:-1]: int(row[-1]) for row in answered.rows}

@@ -43,6 +43,12 @@ def sources(answer, table, aliases):
     return places.sources(table.names[len(answer.plain.names):], answer.relations, aliases)
 
 
+def equal_rows(answer, source):
+    """How often each row of the source stands in its table that stands there several times, as far as this is known."""
+    columns, counts = answer.equal.get(source.name, ((), {}))
+    return counts if columns == source.columns else {}
+
+
 def figures(answer, table, found):
     """The rows of the answer, in its order."""
     own = len(answer.plain.names)
