@@ -295,9 +295,12 @@ def checksum(text):
     return "'sha256-" + base64.b64encode(hashlib.sha256(text.encode()).digest()).decode() + "'"
 
 
-def page(name, script, told, known):
+def page(name, script, told, known, renewing=""):
+    """The page; with a script that renews it, where it is served, which may ask its own server."""
     style, code = ((HERE / file).read_text() for file in ("page.css", "page.js"))
-    policy = f"default-src 'none'; style-src {checksum(style)}; script-src {checksum(code)}; base-uri 'none'; form-action 'none'"
+    runs = [code, renewing] if renewing else [code]
+    policy = f"default-src 'none'; style-src {checksum(style)}; script-src {' '.join(map(checksum, runs))}; base-uri 'none'; form-action 'none'"
+    policy += "; connect-src 'self'" if renewing else ""
     lines = [it for it in refusals.without_note(told.said).splitlines() if not it.startswith(b"perm: .. ")]
     said = "".join(f"<p class=note>{read(line)}</p>\n" for line in lines[:20])
     lead = ENDED.get(told.status, "The program gave no answer.")
@@ -305,5 +308,5 @@ def page(name, script, told, known):
         f'<!doctype html>\n<html lang=en>\n<head>\n<meta charset=utf-8>\n<meta http-equiv=Content-Security-Policy content="{policy}">\n'
         f'<meta name=viewport content="width=device-width, initial-scale=1">\n<title>{shown(name)}</title>\n<style>{style}</style>\n</head>\n<body>\n'
         f"<header><h1>{shown(name)}</h1><p class=lead>{lead}</p>\n{said}</header>\n<main>\n{body(script, told, known)}</main>\n"
-        f"<p id=told role=status></p>\n<script>{code}</script>\n</body>\n</html>\n"
+        f"<p id=told role=status></p>\n{''.join(f'<script>{it}</script>' for it in runs)}\n</body>\n</html>\n"
     )
