@@ -132,6 +132,23 @@ def files_in(program, folder):
         expect(found is None and why in said, f"{data!r} {words} makes {found}; it says {said}")
     left = set(os.listdir()) - {"old.csv", "new.csv", "new.sql"}
     expect(not left, f"{left} are left")
+    pathlib.Path("new.csv").unlink(missing_ok=True)
+
+
+def documented():
+    """What docs/START.md shows of the example's files is what they become."""
+    csv_in, text = command("csv-in"), (TOP / "docs/START.md").read_text()
+    for name, words in {"export": ["/tmp/ledger.csv", "--dates", "dmy"], "accounts": ["/tmp/accounts.csv"]}.items():
+        made, statements, said = pathlib.Path("made.csv"), io.StringIO(), io.StringIO()
+        with contextlib.redirect_stdout(statements), contextlib.redirect_stderr(said):
+            csv_in.main([str(TOP / f"examples/ledger/{name}.csv"), "made.csv", *words[1:]])
+        shown = [f"```csv {words[0]}\n{made.read_text()}```\n"]
+        table = pathlib.Path(words[0]).stem
+        shown.append(statements.getvalue().replace("TABLE made", f"TABLE {table}").replace("COPY made FROM 'made.csv'", f"COPY {table} FROM '{words[0]}'"))
+        if name == "export":
+            shown.append(said.getvalue().replace("made.csv", words[0]))
+        expect(all(it in text for it in shown), f"docs/START.md shows others than {shown}")
+        made.unlink()
 
 
 def out(words, program):
@@ -168,6 +185,7 @@ def main():
         os.chdir(folder)
         try:
             files_in(program, folder)
+            documented()
             files_out(program, folder)
         except Failed as error:
             print(f"csv: {error}", file=sys.stderr)

@@ -380,7 +380,7 @@ def many(window, path):
     window.value("document.querySelector('details').open = true")
     window.click("details[open] tr[data-k]")
     expect(window.value("document.querySelectorAll('.same').length") == 2, "the row isn't marked in both places")
-    window.open(path + "#s6r9001")
+    window.open(path + "#s5r9001")
     expect(window.value("document.querySelectorAll('details[open]').length") == 1, "an address doesn't open a figure far below")
     print(f"page: 10^4 rows, {os.path.getsize(path) / 1e6:.1f} MB: loaded in {took:.1f} s", file=sys.stderr)
     expect(took < LOADED, f"10^4 rows take {took:.1f} s")
