@@ -18,6 +18,18 @@ COUNT = re.compile(rb"\((\d+) rows\)\n")
 REFUSAL = re.compile(rb"error E(\d\d)(?: at (\d+)| [a-z0-9 ]+)?\n\Z")
 
 
+TOP = pathlib.Path(__file__).resolve().parent.parent
+READY = 'top=$1; . "$top/tools/built.sh" && is_built || exec python3 "$top/tools/kept.py" make'
+
+
+def program():
+    """The program that PERM names, or ./perm; of that first an unproved program is made, where there is none, and it is said how far that is."""
+    named = os.environ.get("PERM")
+    if not named:
+        subprocess.run(["bash", "-c", READY, "bash", TOP], stdin=subprocess.DEVNULL, stdout=subprocess.DEVNULL)
+    return named or str(TOP / "perm")
+
+
 class Bare(str):
     """A field without quotes: an integer or a truth value. NULL is None, and a text is a plain str."""
 

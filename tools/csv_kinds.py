@@ -4,6 +4,7 @@ All of a column's values decide, and what they are is said. Where several readin
 has to say which one.
 """
 import datetime
+import functools
 import re
 from dataclasses import dataclass
 
@@ -14,7 +15,7 @@ SPACES, APOSTROPHES = " \u00a0\u202f\u2009", "'\u2019"
 THOUSANDS = {",": ".", ".": ","}
 LOWEST, HIGHEST = -(1 << 63), (1 << 63) - 1
 DATE = re.compile(r"(\d{1,4})([./-])(\d{1,2})\2(\d{1,4})(?:[ T](\d{1,2}:\d{2}(?::\d{2})?))?", re.A)
-PLAIN = re.compile("[+-]?[0-9]+")
+PLAIN, CODE = re.compile("[+-]?[0-9]+"), re.compile("[+-]?0[0-9]+")
 ORDERS = {"dmy": (2, 1, 0), "mdy": (2, 0, 1), "ymd": (0, 1, 2)}
 
 
@@ -27,22 +28,26 @@ class Reading:
 
     def parts(self, text):
         """The sign, the digits before the decimal mark and those behind it; None where the text is no such number."""
-        match = re.fullmatch(r"\(([^()+-]+)\)|([+-]?)(.*?)(-?)", text.strip(SPACES))
-        if not match or match[2] and match[4]:
+        match = pattern(self).fullmatch(text)
+        if not match:
             return None
-        body = match[1] if match[1] is not None else match[3]
-        negative = match[1] is not None or match[2] == "-" or match[4] == "-"
-        front, _, behind = body.partition(self.decimal)
-        if self.thousands and any(it in front for it in self.thousands):
-            if not re.fullmatch(rf"[0-9]{{1,3}}(?:([{re.escape(self.thousands)}])[0-9]{{3}})(?:\1[0-9]{{3}})*", front):
-                return None
-            front = re.sub("[^0-9]", "", front)
-        digits = re.fullmatch("[0-9]+", front) and re.fullmatch("[0-9]*", behind) and (behind or self.decimal not in body)
-        return ("-" if negative else "", front, behind) if digits else None
+        before, front, _, behind, after = match.groups()
+        # Parentheses stand for minus, and a sign stands in front or behind.
+        if (before == "(") != (after == ")") or before and after == "-":
+            return None
+        negative = before in ("(", "-") or after == "-"
+        return "-" if negative else "", front if front.isdigit() else re.sub("[^0-9]", "", front), behind or ""
 
     def said(self):
         names = {",": "a comma", ".": "a point", SPACES: "blanks", APOSTROPHES: "apostrophes"}
         return f"decimal mark {names[self.decimal]}" + (f", thousands by {names[self.thousands]}" if self.thousands else "")
+
+
+@functools.cache
+def pattern(reading):
+    """A number of this reading: what stands in front, the digits, the mark between thousands, the decimals, and what stands behind."""
+    groups = rf"[0-9]{{1,3}}(?:([{re.escape(reading.thousands)}])[0-9]{{3}})(?:\3[0-9]{{3}})*" if reading.thousands else "(?!)()"
+    return re.compile(rf"[{SPACES}]*([(+-])?({groups}|[0-9]+)(?:{re.escape(reading.decimal)}([0-9]+))?([)-])?[{SPACES}]*")
 
 
 def all_readings(decimal, thousands):
@@ -66,7 +71,7 @@ def number(parts, scale):
 def scale_of(values, reading):
     """How many decimals the values have by this reading; None where one of them is no number by it."""
     most = 0
-    for value in {it for it in values if not PLAIN.fullmatch(it)}:
+    for value in values:
         parts = reading.parts(value)
         if parts is None:
             return None
@@ -76,7 +81,7 @@ def scale_of(values, reading):
 
 def is_code(values):
     """Whether a number is written with zeros in front, as a code is, or without anything else and too long."""
-    return any(re.fullmatch(r"[+-]?0[0-9]+", it) for it in values)
+    return any(CODE.fullmatch(it) for it in values)
 
 
 @dataclass
@@ -98,12 +103,14 @@ class Numbers:
 
 def numbers(values, readings):
     """What the values are as numbers; None where they are none."""
-    fits = {}
-    for it in readings:
-        scale = scale_of(values, it)
-        if scale is not None:
-            fits[it] = scale
-    return Numbers(fits) if fits and values and not is_code(values) else None
+    strange = next((it for it in values if not PLAIN.fullmatch(it)), None)
+    fitting = [it for it in readings if strange is None or it.parts(strange)]
+    if not values or not fitting or is_code(values):
+        return None
+    others = {it for it in values if not PLAIN.fullmatch(it)} if strange is not None else ()
+    fits = {it: scale_of(others, it) for it in fitting}
+    fits = {it: scale for it, scale in fits.items() if scale is not None}
+    return Numbers(fits) if fits else None
 
 
 def odd(values, readings, part=.1):
@@ -127,6 +134,7 @@ def is_dated(values):
     return bool(values) and all(DATE.fullmatch(it) for it in values)
 
 
+@functools.lru_cache(1 << 16)
 def iso(value, order):
     """The date in the order of ISO 8601; refuses one that isn't in that order."""
     match = DATE.fullmatch(value)

@@ -138,6 +138,9 @@ def made(folder, call=("try", "--", "--generate", "1")):
 
 
 def finished(folder, call):
+    if folder:
+        # What a call that was ended left would tell a wrong step.
+        (folder / "call.json").unlink(missing_ok=True)
     done = tried(list(call), folder)
     if kept.program(folder):
         say("perm: .. the program is made, and kept until a source changes")

@@ -1,7 +1,8 @@
 #!/usr/bin/env python3
 """Tests ./watch and `./perm -`: watch_test.py PROGRAM
 
-A script is watched while it and a file that it copies change: each time it has to be answered again, and the page has to be another one.
+A script is watched while it and a file that it copies change: each time it has to be answered again, and the page has to be another one, which
+a headless Chromium, where one is installed, has to show by itself.
 """
 import contextlib
 import os
@@ -10,8 +11,11 @@ import shutil
 import subprocess
 import sys
 import tempfile
+import time
 import urllib.error
 import urllib.request
+
+import browser
 
 TOP = pathlib.Path(__file__).resolve().parent.parent
 SCRIPT = "CREATE TABLE t (a INTEGER); COPY t FROM 't.csv'; SELECT PROVENANCE a FROM t;\n"
@@ -63,11 +67,26 @@ def watched(program, folder):
         script.unlink()
         expect("status 6" in next_answer(watching), "a script that is gone isn't answered")
         expect(got(address, "elsewhere.example")[0] is None and got(address + "x")[0] is None, "another host or address gets a page")
+        if browser.found():
+            renewed(address, script, watching)
     finally:
         watching.terminate()
         watching.communicate()
     written = (folder / "answers").read_text()
-    expect(written.count("COPY 1\n") == 1 and written.count("COPY 2\n") == 1 and written.endswith("error E40 script\n"), f"it wrote {written}")
+    expect(written.count("COPY 1\n") == 1 and written.count("COPY 2\n") == 1 and "error E40 script\n" in written, f"it wrote {written}")
+
+
+def renewed(address, script, watching):
+    """A browser that shows the page takes the newer one by itself."""
+    with browser.Browser() as window:
+        window.load(address)
+        expect(not window.complaints(), f"the browser complains: {window.complaints()}")
+        script.write_text("SELECT 'renewed' AS a;\n")
+        next_answer(watching)
+        begun = time.monotonic()
+        while "renewed" not in window.value("document.body.textContent"):
+            expect(time.monotonic() < begun + PATIENCE, "the page isn't renewed")
+            time.sleep(.1)
 
 
 def from_input(program, folder):
