@@ -70,10 +70,20 @@ def table(text):
     return Table(list(names), rows) if fits else None
 
 
+@dataclass(frozen=True)
+class Rows:
+    """What is known of a table's rows: the names of its columns, how often each row stands that stands several times, and how many others there
+    are than these; None where it wasn't asked."""
+
+    columns: tuple
+    times: dict
+    distinct: int | None = None
+
+
 @dataclass
 class Answer:
-    """What a statement answered. `plain` is what it answers without the word PROVENANCE, where it has that; `equal` has for each table
-    whose equal rows were asked for the names of its columns, and how often each row stands that stands several times."""
+    """What a statement answered. `plain` is what it answers without the word PROVENANCE, where it has that; `equal` has what is
+    known of the tables' rows."""
 
     statement: scripts.Statement
     text: bytes
@@ -100,11 +110,12 @@ def run(program, script):
 @dataclass(frozen=True)
 class Question:
     """A query of our own behind the statement of this number: of the columns of what it made, of its plain answer, or, with the table's name,
-    of the rows of a table that stand several times."""
+    of the rows of a table that stand several times, or of their number."""
 
     statement: int
     text: bytes
     table: bytes | None = None
+    counts_all: bool = False
 
 
 def without_word(script, statement, word):
@@ -123,7 +134,9 @@ def questions(script, statements):
         word = statement.provenance()
         if word:
             found.append(Question(number, without_word(script, statement, word)))
-            found += [Question(number, of_equal_rows(it, tables[it]), it) for it in sorted(changed)]
+            for it in sorted(changed):
+                found.append(Question(number, of_equal_rows(it, tables[it]), it))
+                found.append(Question(number, b"SELECT COUNT(*) FROM " + scripts.quoted(it), it, True))
             changed.clear()
         elif statement.made():
             found.append(Question(number, b"SELECT * FROM " + scripts.quoted(statement.made()) + b" LIMIT 0"))
@@ -221,7 +234,9 @@ def joined(statements, order, moved, found, told):
             continue
         answered = table(text)
         if item.table is not None and answered:
-            equal[item.table.decode()] = answers[-1].equal[item.table.decode()] = counts(answered)
+            name = item.table.decode()
+            known = counted(equal.get(name), answered) if item.counts_all else repeated(answered)
+            equal[name] = answers[-1].equal[name] = known
         elif statements[item.statement].provenance():
             answers[-1].plain = answered
         elif answered:
@@ -229,6 +244,10 @@ def joined(statements, order, moved, found, told):
     return answers if b"".join(it.text for it in answers) == told.written else None
 
 
-def counts(answered):
-    """The names of a table's columns, and how often each row stands that stands several times."""
-    return tuple(answered.names[:-1]), {row[:-1]: int(row[-1]) for row in answered.rows}
+def repeated(answered):
+    return Rows(tuple(answered.names[:-1]), {row[:-1]: int(row[-1]) for row in answered.rows})
+
+
+def counted(known, answered):
+    """What is known of a table's rows, and how many different ones there are."""
+    return known and Rows(known.columns, known.times, int(answered.rows[0][0]) - sum(it - 1 for it in known.times.values()))

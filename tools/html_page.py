@@ -145,12 +145,13 @@ def sums(told, rows, equal, further):
 def summary(sources, found, count, times, equal):
     """What is said of a figure's witnesses: before the number of these, the number, and behind it."""
     parts = []
-    for source, rows, repeats in zip(sources, found, equal):
+    for source, rows, known in zip(sources, found, equal):
         told = [row for row in rows if not traced.is_empty(row)]
         title = visible(places.title(source))
-        more = sum(repeats.get(row, 1) for row in told)
+        more = sum(known.times.get(row, 1) for row in told)
         often = f" (with equal ones {more})" if more > len(told) else ""
-        parts.append(f"{number(len(told), 'row')}{often} of {title}" if told else f"{title} empty")
+        every = "all " if len(told) == known.distinct and len(told) > 1 else ""
+        parts.append(f"{every}{number(len(told), 'row')}{often} of {title}" if told else f"{title} empty")
     before = f"stands {times} times in the plain answer; from " if times > 1 else "from "
     return before, number(count, "witness", "witnesses"), f": {', '.join(parts)}" if parts else ""
 
@@ -162,7 +163,7 @@ def row_name(at, place):
 
 def figure_rows(at, place, figure, sources, marks, equal):
     before, strong, behind = map(html.escape, summary(sources, figure.sources, figure.count(), figure.times, equal))
-    tables = "".join(source_table(source, rows, figure.count(), marks, repeats) for source, rows, repeats in zip(sources, figure.sources, equal))
+    tables = "".join(source_table(source, rows, figure.count(), marks, known.times) for source, rows, known in zip(sources, figure.sources, equal))
     return (
         f"<tr class=row id={row_name(at, place)}>{''.join(map(cell, figure.row))}<td class=fill>\n<tr class=from><td colspan={len(figure.row) + 1}>"
         f"<details data-i={place}><summary>{before}<b>{strong}</b>{behind}</summary><div class=sources>\n{tables}</div></details>\n"
@@ -182,7 +183,7 @@ def data(table, figures, sources, marks, equal):
         for it in sources
     ]
     of_figures = [
-        [it.row, it.times, it.count(), summary(sources, it.sources, it.count(), it.times, equal), [source_data(*one) for one in zip(sources, it.sources, [marks] * len(sources), equal)]]
+        [it.row, it.times, it.count(), summary(sources, it.sources, it.count(), it.times, equal), [source_data(source, rows, marks, known.times) for source, rows, known in zip(sources, it.sources, equal)]]
         for it in figures
     ]
     told = {"names": table.names[:own], "kinds": [kind(table.rows, at) for at in range(own)], "sources": of_sources, "figures": of_figures}
@@ -192,7 +193,7 @@ def data(table, figures, sources, marks, equal):
 def traced_table(at, answer, table, sources):
     """An answer with provenance: each row of the query's own columns once, and under it its witnesses, a table a source."""
     figures, marks = traced.figures(answer, table, sources), Marks()
-    equal = [traced.equal_rows(answer, it) for it in sources]
+    equal = [traced.known_rows(answer, it) for it in sources]
     size = len(figures) + sum(len(rows) for it in figures for rows in it.sources)
     large = size > LARGE
     lines = "" if large else "".join(figure_rows(at, place, it, sources, marks, equal) for place, it in enumerate(figures))

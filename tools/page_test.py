@@ -299,7 +299,7 @@ def found(window, path):
     """Equal rows, sums, a filter, a figure's address, and its witnesses as CSV."""
     window.open(path)
     expect(not window.complaints(), f"the browser complains: {window.complaints()}")
-    expect(texts(window, "summary") == ["from 3 witnesses: 3 rows (with equal ones 4) of r"], f"summaries say {texts(window, 'summary')}")
+    expect(texts(window, "summary") == ["from 3 witnesses: all 3 rows (with equal ones 4) of r"], f"summaries say {texts(window, 'summary')}")
     window.value("document.querySelector('details').open = true")
     expect(texts(window, "td.w.t") == ["", "2 times", ""] , f"equal rows are told by {texts(window, 'td.w.t')}")
     sums = texts(window, "tfoot .n")
@@ -345,7 +345,7 @@ def report(window, path, pictures):
     if pictures:
         top = window.value("document.querySelector('table.why').closest('article').previousElementSibling.getBoundingClientRect().top + scrollY")
         window.value("document.activeElement.blur()")
-        window.shot(os.path.join(pictures, "page-report.png"), top=top - 16, height=520)
+        window.shot(os.path.join(pictures, "page-report.png"), top=top - 16, height=650)
     window.click(row)
     expect(window.value("document.querySelectorAll('.same').length") == 0, "a second click leaves marks")
     window.value("document.querySelector('details').open = false")

@@ -1,6 +1,7 @@
 """Answers with provenance taken apart: each row of the query's own columns once, with its witnesses, source by source."""
 from dataclasses import dataclass
 
+import answers
 import places
 
 
@@ -43,10 +44,10 @@ def sources(answer, table, aliases):
     return places.sources(table.names[len(answer.plain.names):], answer.relations, aliases)
 
 
-def equal_rows(answer, source):
-    """How often each row of the source stands in its table that stands there several times, as far as this is known."""
-    columns, counts = answer.equal.get(source.name, ((), {}))
-    return counts if columns == source.columns else {}
+def known_rows(answer, source):
+    """What is known of the rows of the table that the source is."""
+    known = answer.equal.get(source.name)
+    return known if known and known.columns == source.columns else answers.Rows(source.columns, {})
 
 
 def figures(answer, table, found):
