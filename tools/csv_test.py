@@ -63,6 +63,9 @@ TURNED = [
     ("a\nx\n''\n", "--header yes --null ''", [("x",), (None,)]),
     ("a;b\n1;9223372036854775807\n", "", [("1", "9223372036854775807")]),
     ("a;b\n1;2\n", "--text a --text b", [("1", "2")]),
+    ("a\tb\n1.234\t1\n", "--separator tab --thousands none", [("1234", "1")]),
+    ("a;b\n1.234;1\n", "--thousands .", [("1234", "1")]),
+    ("a;b\n", "--header yes", []),
 ]
 # What is refused, and words of why.
 NOT_TURNED = [
