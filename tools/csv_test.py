@@ -141,7 +141,7 @@ def files_in(program, folder):
 def documented():
     """What docs/START.md shows of the example's files is what they become."""
     csv_in, text = command("csv-in"), (TOP / "docs/START.md").read_text()
-    for name, words in {"export": ["/tmp/ledger.csv", "--dates", "dmy"], "accounts": ["/tmp/accounts.csv"]}.items():
+    for name, words in {"export": ["out/ledger.csv", "--dates", "dmy"], "accounts": ["out/accounts.csv"]}.items():
         made, statements, said = pathlib.Path("made.csv"), io.StringIO(), io.StringIO()
         with contextlib.redirect_stdout(statements), contextlib.redirect_stderr(said):
             csv_in.main([str(TOP / f"examples/ledger/{name}.csv"), "made.csv", *words[1:]])
