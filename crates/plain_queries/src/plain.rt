@@ -24,10 +24,10 @@ pub fn plain_query(alloc: Global, query: &Query) -> Result<Query, NoMemory>
     let mut simple = first_query(alloc, query)?;
     'rounds: for _round in 0..ROUNDS {
         let (simpler, is_settled) = round(alloc, simple)?;
-        simple = simpler;
         if is_settled {
-            break;
+            return Ok(simpler);
         }
+        simple = simpler;
     }
     Ok(simple)
 }
