@@ -6,9 +6,6 @@ use bag_algebra::{Aggr, Arm, ChainStep, Expr, Item};
 #[cycle(same_expr)]
 pub(crate) fn same_expr(one: &Expr, other: &Expr) -> bool {
     match one {
-        Expr::Col { .. } => same_leaf(one, other),
-        Expr::Lit { .. } => same_leaf(one, other),
-        Expr::Sub { .. } => same_leaf(one, other),
         Expr::Op { op, parts } => match other {
             Expr::Op {
                 op: second,
@@ -16,8 +13,26 @@ pub(crate) fn same_expr(one: &Expr, other: &Expr) -> bool {
             } => *op == *second && same_parts(parts.as_slice(), others.as_slice()),
             _ => false,
         },
-        Expr::Chain { first, steps } => is_chain(other, first.get(), steps.as_slice()),
-        Expr::Case { arms, otherwise } => is_case(other, arms.as_slice(), otherwise.get()),
+        Expr::Chain { first, steps } => match other {
+            Expr::Chain {
+                first: second,
+                steps: others,
+            } => {
+                same_expr(first.get(), second.get())
+                    && same_steps(steps.as_slice(), others.as_slice())
+            }
+            _ => false,
+        },
+        Expr::Case { arms, otherwise } => match other {
+            Expr::Case {
+                arms: others,
+                otherwise: second,
+            } => {
+                same_arms(arms.as_slice(), others.as_slice())
+                    && same_expr(otherwise.get(), second.get())
+            }
+            _ => false,
+        },
         Expr::IsNull { part } => match other {
             Expr::IsNull { part: second } => same_expr(part.get(), second.get()),
             _ => false,
@@ -29,37 +44,14 @@ pub(crate) fn same_expr(one: &Expr, other: &Expr) -> bool {
             } => *truth == *second && same_expr(part.get(), there.get()),
             _ => false,
         },
-        Expr::Same { first, second } => is_same(other, first.get(), second.get()),
-    }
-}
-
-#[cycle(same_expr)]
-fn is_chain(expr: &Expr, operand: &Expr, others: &[ChainStep]) -> bool {
-    match expr {
-        Expr::Chain { first, steps } => {
-            same_expr(operand, first.get()) && same_steps(others, steps.as_slice())
-        }
-        _ => false,
-    }
-}
-
-#[cycle(same_expr)]
-fn is_case(expr: &Expr, others: &[Arm], last: &Expr) -> bool {
-    match expr {
-        Expr::Case { arms, otherwise } => {
-            same_arms(others, arms.as_slice()) && same_expr(last, otherwise.get())
-        }
-        _ => false,
-    }
-}
-
-#[cycle(same_expr)]
-fn is_same(expr: &Expr, left: &Expr, right: &Expr) -> bool {
-    match expr {
-        Expr::Same { first, second } => {
-            same_expr(left, first.get()) && same_expr(right, second.get())
-        }
-        _ => false,
+        Expr::Same { first, second } => match other {
+            Expr::Same {
+                first: third,
+                second: fourth,
+            } => same_expr(first.get(), third.get()) && same_expr(second.get(), fourth.get()),
+            _ => false,
+        },
+        Expr::Col { .. } | Expr::Lit { .. } | Expr::Sub { .. } => same_leaf(one, other),
     }
 }
 
