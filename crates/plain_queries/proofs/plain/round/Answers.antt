@@ -1,9 +1,8 @@
 use Rattle.std.proofs.Common.{◌≡◌, true}
 use Rattle.bag_algebra.specs.Rewriting.{is_plain, Stands}
 use Rattle.perm_values.proofs.Results.{where_made}
-use Rattle.rewrite_core.proofs.Itself.{stands-onward}
 use Rattle.plain_queries.proofs.plain.round.Goals as goal
 
-pub folded-simpler-requires : goal.folded-simpler-requires
-folded-simpler-requires c =
+pub folded-requires : goal.folded-requires
+folded-requires c =
     where_made (λ p. Stands c.args.query p) (λ p. is_plain p ≡ true) c.tests_lowered-lowered.result (λ p s. s.plain) c.tests_lowered-lowered.ensures
