@@ -115,7 +115,7 @@ module _ (Can : List ℕ → Found → Type 0) (c after : Contents) (statement :
       let left = drawn c statement.at (codes "CREATE TABLE\n") text (with_table c table.text (defined_columns columns) [] None) after (turn made named) in
       subst (λ (d : Contents). CreatesTable c d table columns text) (sym left.is) (record {
         free = free;
-        columns = new-columns c sound table.text (defined_columns columns) free;
+        columns_are = new-columns c sound table.text (defined_columns columns) free;
         rows = new-rows c sound table.text (defined_columns columns) free;
         nothing = new-nothing c sound table.text (defined_columns columns) free;
         others = new-others c sound table.text (defined_columns columns) free;

@@ -112,7 +112,7 @@ module _ (c : Contents) (sound : IsSound c) (name : List ℕ) where
       has-rows : HasRowsThen name bag c later
       has-rows = record {
         known = ap is_some is;
-        rows = rows-there later name newer newer-there
+        rows_are = rows-there later name newer newer-there
             ∙ ap (λ (m : FinMap nat_cmp Bag). unwrap_or (map.get m entry.id) []) put ∙ ap (λ (o : Option Bag). unwrap_or o []) (get-put c.rows entry.id bag);
         columns = ap (λ (o : Option TableEntry). option_map (λ (e : TableEntry). e.columns) o) newer-there
             ∙ sym (ap (λ (o : Option TableEntry). option_map (λ (e : TableEntry). e.columns) o) is);

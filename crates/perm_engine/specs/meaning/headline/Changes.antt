@@ -49,7 +49,7 @@ KeepsViews name c after = (other : List ℕ) → other ≢ name → view_named a
 -- the table of this name, which is one of the catalog's, has these rows then
 pub record HasRowsThen (name : List ℕ) (rows : Bag) (c after : Contents) : Type 0 where
   pub known : IsSome (table_named c name)
-  pub rows : rows_of after name ≡ rows
+  pub rows_are : rows_of after name ≡ rows
   -- its columns are what they were, and it stores no provenance
   pub columns : columns_at after name ≡ columns_at c name
   pub nothing : StoresNothing name after
@@ -63,7 +63,7 @@ pub record HasRowsThen (name : List ℕ) (rows : Bag) (c after : Contents) : Typ
 pub record CreatesTable (c after : Contents) (table : Name) (columns : List ColumnDef) (text : List ℕ) : Type 0 where
   -- nothing had its name
   pub free : is_free c table.text ≡ true
-  pub columns : columns_at after table.text ≡ Some (defined_columns columns)
+  pub columns_are : columns_at after table.text ≡ Some (defined_columns columns)
   pub rows : rows_of after table.text ≡ []
   pub nothing : StoresNothing table.text after
   -- other tables and all views are what they were
