@@ -1,6 +1,9 @@
 -- The pieces of a script, one more or the last one.
-use Rattle.std.proofs.Common.{◌≡◌, ◌∙◌, ◌<◌, ◌≤◌, ◌+◌, ℕ, suc, Bool, true, false, cond, not, List, [], ◌∷◌, length, take, drop, refl, ap, arith}
+use Rattle.std.proofs.Common.{◌≡◌, ◌∙◌, ◌<◌, ◌≤◌, ◌+◌, ℕ, suc, Bool, true, false, cond, not, List, [], ◌∷◌, length, take, drop, ◌⊎◌, inl, inr, refl, sym, ap, arith}
+use Rattle.std.specs.Prelude.{◌==◌}
 use Rattle.std.specs.List.{prefix_len, onto_first}
+use Rattle.std.proofs.lemmas.Bool.{cases_lt}
+use Rattle.std.proofs.lemmas.List.{take_all}
 use Rattle.std.proofs.lemmas.List.Splits.{slice_split_first, slice_split-cons_no}
 use Rattle.refusal_hints.specs.Advice.{advice_in, first_advice, or_else}
 use Rattle.refusal_hints.specs.Names.{first_wanted, made_name, names}
@@ -23,24 +26,54 @@ pieces_last (byte ∷ bytes) last = by (is_other byte) refl (λ less. pieces_las
         let less : suc (length bytes) ≤ 1 + prefix_len is_of_word bytes = rw e at last in
         slice_split-cons_no is_other byte bytes e ∙ ap (onto_first byte) (rest (omega (arith, less)))
 
--- the same, of the advice for the words of a statement
-pub advice_of_more : (bytes : List ℕ) (end : ℕ) → end ≡ prefix_len is_of_word bytes → end < length bytes →
-    first_advice statement_words (pieces bytes)
-    ≡ or_else (advice_in statement_words (take end bytes)) (first_advice statement_words (pieces (drop (end + 1) bytes)))
-advice_of_more bytes end e more = rw e (ap (first_advice statement_words) (pieces_more bytes (rw e at more)))
+-- the first piece, and the others
+pub record Parts (bytes : List ℕ) : Type 0 where
+  pub others : List (List ℕ)
+  pub whole : pieces bytes ≡ take (prefix_len is_of_word bytes) bytes ∷ others
 
-pub advice_of_last : (bytes : List ℕ) → length bytes ≤ prefix_len is_of_word bytes →
-    first_advice statement_words (pieces bytes) ≡ or_else (advice_in statement_words bytes) []
-advice_of_last bytes last = ap (first_advice statement_words) (pieces_last bytes last)
+parts : (bytes : List ℕ) → Parts bytes
+parts bytes = by (cases_lt (prefix_len is_of_word bytes) (length bytes))
+  where
+    by : (prefix_len is_of_word bytes < length bytes) ⊎ (length bytes ≤ prefix_len is_of_word bytes) → Parts bytes
+    by (inl more) = record { others = pieces (drop (prefix_len is_of_word bytes + 1) bytes); whole = pieces_more bytes more }
+    by (inr last) = record {
+      others = [];
+      whole = pieces_last bytes last ∙ ap (λ piece. piece ∷ []) (sym (take_all (prefix_len is_of_word bytes) bytes last));
+    }
 
--- and of the names that a script makes
-pub wanted_more : (wanted : List ℕ → Bool) (before bytes : List ℕ) (end : ℕ) → end ≡ prefix_len is_of_word bytes → end < length bytes →
+-- the advice for the words of a statement: that of the first word, that of the others, or none
+pub advice_found : (bytes : List ℕ) → (length (advice_in statement_words (take (prefix_len is_of_word bytes) bytes)) == 0) ≡ false →
+    first_advice statement_words (pieces bytes) ≡ advice_in statement_words (take (prefix_len is_of_word bytes) bytes)
+advice_found bytes some =
+    let found = parts bytes in ap (first_advice statement_words) found.whole ∙ rw some refl
+
+pub advice_further : (bytes : List ℕ) → (length (advice_in statement_words (take (prefix_len is_of_word bytes) bytes)) == 0) ≡ true →
+    prefix_len is_of_word bytes < length bytes →
+    first_advice statement_words (pieces bytes) ≡ first_advice statement_words (pieces (drop (prefix_len is_of_word bytes + 1) bytes))
+advice_further bytes none more = ap (first_advice statement_words) (pieces_more bytes more) ∙ rw none refl
+
+pub advice_nowhere : (bytes : List ℕ) → (length (advice_in statement_words (take (prefix_len is_of_word bytes) bytes)) == 0) ≡ true →
+    length bytes ≤ prefix_len is_of_word bytes → first_advice statement_words (pieces bytes) ≡ []
+advice_nowhere bytes none last =
+    let all : take (prefix_len is_of_word bytes) bytes ≡ bytes = take_all (prefix_len is_of_word bytes) bytes last in
+    let same : (length (advice_in statement_words bytes) == 0) ≡ true = rw all at none in
+    ap (first_advice statement_words) (pieces_last bytes last) ∙ rw same refl
+
+-- and the names that a script makes
+pub wanted_found : (wanted : List ℕ → Bool) (before bytes : List ℕ) → wanted (made_name before (take (prefix_len is_of_word bytes) bytes)) ≡ true →
+    first_wanted wanted (names before (pieces bytes)) ≡ made_name before (take (prefix_len is_of_word bytes) bytes)
+wanted_found wanted before bytes some =
+    let found = parts bytes in ap (λ p. first_wanted wanted (names before p)) found.whole ∙ rw some refl
+
+pub wanted_further : (wanted : List ℕ → Bool) (before bytes : List ℕ) → wanted (made_name before (take (prefix_len is_of_word bytes) bytes)) ≡ false →
+    prefix_len is_of_word bytes < length bytes →
     first_wanted wanted (names before (pieces bytes))
-    ≡ cond (wanted (made_name before (take end bytes))) (made_name before (take end bytes))
-    (first_wanted wanted (names (or_else (take end bytes) before) (pieces (drop (end + 1) bytes))))
-wanted_more wanted before bytes end e more =
-    rw e (ap (λ p. first_wanted wanted (names before p)) (pieces_more bytes (rw e at more)))
+    ≡ first_wanted wanted (names (or_else (take (prefix_len is_of_word bytes) bytes) before) (pieces (drop (prefix_len is_of_word bytes + 1) bytes)))
+wanted_further wanted before bytes none more = ap (λ p. first_wanted wanted (names before p)) (pieces_more bytes more) ∙ rw none refl
 
-pub wanted_last : (wanted : List ℕ → Bool) (before bytes : List ℕ) → length bytes ≤ prefix_len is_of_word bytes →
-    first_wanted wanted (names before (pieces bytes)) ≡ cond (wanted (made_name before bytes)) (made_name before bytes) []
-wanted_last wanted before bytes last = ap (λ p. first_wanted wanted (names before p)) (pieces_last bytes last)
+pub wanted_nowhere : (wanted : List ℕ → Bool) (before bytes : List ℕ) → wanted (made_name before (take (prefix_len is_of_word bytes) bytes)) ≡ false →
+    length bytes ≤ prefix_len is_of_word bytes → first_wanted wanted (names before (pieces bytes)) ≡ []
+wanted_nowhere wanted before bytes none last =
+    let all : take (prefix_len is_of_word bytes) bytes ≡ bytes = take_all (prefix_len is_of_word bytes) bytes last in
+    let same : wanted (made_name before bytes) ≡ false = rw all at none in
+    ap (λ p. first_wanted wanted (names before p)) (pieces_last bytes last) ∙ rw same refl

@@ -120,7 +120,7 @@ abbrev pub text_quotes : List ℕ
 text_quotes = codes "double quotes stand around names: a text stands between single ones"
 
 -- what may stand where a script is refused, or just before
-abbrev pub texts : List Row
+unfoldable pub texts : List Row
 texts =
     row (codes "avg") averages ∷
     row (codes "offset") offsets ∷
@@ -224,7 +224,7 @@ texts =
     []
 
 -- words of a statement that is refused further behind
-abbrev pub statement_words : List Row
+unfoldable pub statement_words : List Row
 statement_words =
     row (codes "natural") natural_joins ∷
     row (codes "insert") inserts ∷
@@ -232,7 +232,7 @@ statement_words =
     []
 
 -- what may stand in the place of a name
-abbrev pub name_texts : List Row
+unfoldable pub name_texts : List Row
 name_texts =
     row (codes "current_date") dates ∷
     row (codes "current_time") dates ∷

@@ -46,24 +46,34 @@ pub(crate) fn word_before(script: &[u8], at: usize) -> &[u8]
 fn last_word(bytes: &[u8]) -> &[u8]
     ensures { result.now ≡ ending is_of_word bytes.now }
 {
-    let count = bytes
+    from(bytes, bytes.len().saturating_sub(word_at_end(bytes)))
+}
+
+fn word_at_end(bytes: &[u8]) -> usize
+    ensures { result ≡ suffix_len is_of_word bytes.now }
+{
+    bytes
         .iter()
         .rev()
         .take_while(|byte| is_of_word(**byte))
-        .count();
-    from(bytes, bytes.len().saturating_sub(count))
+        .count()
 }
 
 /// The bytes without the blanks and opening parentheses at their end.
 fn without_blanks(bytes: &[u8]) -> &[u8]
     ensures { result.now ≡ without_ending is_between bytes.now }
 {
-    let count = bytes
+    up_to(bytes, bytes.len().saturating_sub(blanks_at_end(bytes)))
+}
+
+fn blanks_at_end(bytes: &[u8]) -> usize
+    ensures { result ≡ suffix_len is_between bytes.now }
+{
+    bytes
         .iter()
         .rev()
         .take_while(|byte| is_between(**byte))
-        .count();
-    up_to(bytes, bytes.len().saturating_sub(count))
+        .count()
 }
 
 fn is_between(byte: u8) -> bool
@@ -76,13 +86,24 @@ fn is_between(byte: u8) -> bool
 pub(crate) fn statement_before(script: &[u8], at: usize) -> &[u8]
     ensures { result.now ≡ statement_before script.now at }
 {
-    let front = up_to(script, at);
-    let count = front
+    last_statement(up_to(script, at))
+}
+
+/// What stands behind the last semicolon.
+fn last_statement(bytes: &[u8]) -> &[u8]
+    ensures { result.now ≡ ending is_no_semicolon bytes.now }
+{
+    from(bytes, bytes.len().saturating_sub(statement_at_end(bytes)))
+}
+
+fn statement_at_end(bytes: &[u8]) -> usize
+    ensures { result ≡ suffix_len is_no_semicolon bytes.now }
+{
+    bytes
         .iter()
         .rev()
         .take_while(|byte| is_no_semicolon(**byte))
-        .count();
-    from(front, front.len().saturating_sub(count))
+        .count()
 }
 
 fn is_no_semicolon(byte: u8) -> bool

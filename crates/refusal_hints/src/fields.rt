@@ -1,6 +1,6 @@
 //! The fields of a record of a CSV file, and what one looks like that is no integer. Records, and the fields of one, count from 1.
 ghost use Rattle.std.specs.Prelude.{◌≡◌, IfOk, nat_lt};
-ghost use Rattle.std.specs.List.{prefix_len, suffix_len};
+ghost use Rattle.std.specs.List.{list_all, list_any, prefix_len, suffix_len};
 ghost use Rattle.std.specs.Char.{is_ascii_digit};
 ghost use Rattle.csv.specs.Records.{fields_of};
 ghost use Rattle.refusal_hints.specs.Fields.{amount_advice, field_advice, field_count, field_of, has_byte, is_amount, is_date, is_mark, is_of_amount, is_of_date, kind_advice, numbered, record_of, row_advice, separator_advice};
@@ -50,10 +50,11 @@ fn record_of(alloc: Global, file: &[u8], row: u64) -> Result<ByteRecord, NoMemor
         .from_reader(alloc, file);
     let mut fields = ByteRecord::new(alloc);
     for _number in 0..row {
-        match reader.read_byte_record(&mut fields) {
-            Ok(true) => {}
-            Ok(false) => return Ok(ByteRecord::new(alloc)),
-            Err(_) => return Err(NoMemory),
+        let Ok(found) = reader.read_byte_record(&mut fields) else {
+            return Err(NoMemory);
+        };
+        if !found {
+            return Ok(ByteRecord::new(alloc));
         }
     }
     Ok(fields)
@@ -117,7 +118,7 @@ fn is_date(field: &[u8]) -> bool
     ensures { result ≡ is_date field.now }
 {
     starts_with_digit(field)
-        && field.iter().all(|byte| is_of_date(*byte))
+        && is_all_of_date(field)
         && (has_byte(field, b'-') || has_byte(field, b'/'))
 }
 
@@ -125,17 +126,40 @@ fn is_date(field: &[u8]) -> bool
 fn is_amount(field: &[u8]) -> bool
     ensures { result ≡ is_amount field.now }
 {
-    field.iter().any(|byte| byte.is_ascii_digit()) && field.iter().all(|byte| is_of_amount(*byte))
+    has_digit(field) && is_all_of_amount(field)
+}
+
+fn has_digit(field: &[u8]) -> bool
+    ensures { result ≡ list_any is_ascii_digit field.now }
+{
+    field.iter().any(|byte| byte.is_ascii_digit())
+}
+
+fn is_all_of_amount(field: &[u8]) -> bool
+    ensures { result ≡ list_all is_of_amount field.now }
+{
+    field.iter().all(|byte| is_of_amount(*byte))
+}
+
+fn is_all_of_date(field: &[u8]) -> bool
+    ensures { result ≡ list_all is_of_date field.now }
+{
+    field.iter().all(|byte| is_of_date(*byte))
 }
 
 fn starts_with_digit(field: &[u8]) -> bool
     ensures { result ≡ nat_lt 0 (prefix_len is_ascii_digit field.now) }
 {
+    digits_in_front(field) > 0
+}
+
+fn digits_in_front(field: &[u8]) -> usize
+    ensures { result ≡ prefix_len is_ascii_digit field.now }
+{
     field
         .iter()
         .take_while(|byte| byte.is_ascii_digit())
         .count()
-        > 0
 }
 
 fn digits_at_end(field: &[u8]) -> usize

@@ -8,7 +8,7 @@ ghost use Rattle.refusal_hints.specs.Words.{pieces};
 use crate::clues::{word_at, word_length};
 use crate::distance::is_near;
 use crate::names::{column_at, made_name};
-use crate::slices::{or_else, same, up_to};
+use crate::slices::{from, or_else, same, up_to};
 use perm_values::{Bytes, NoMemory};
 use std::alloc::Global;
 
@@ -99,7 +99,7 @@ fn near_name<'a>(script: &'a [u8], at: usize, found: &'a [u8], more: &'a [u8]) -
 }
 
 /// The first name of the script that is wanted.
-#[tactic(auto, using(crate::proofs::Parted::wanted_more, crate::proofs::Parted::wanted_last))]
+#[tactic(auto, using(crate::proofs::Parted::wanted_found, crate::proofs::Parted::wanted_further, crate::proofs::Parted::wanted_nowhere))]
 fn first_wanted<'a>(wanted: &Wanted<'_>, script: &'a [u8]) -> &'a [u8]
     ensures { result.now ≡ first_wanted (is_wanted wanted.now.item.now wanted.now.column.now
         wanted.now.found.now wanted.now.more.now) (names [] (pieces script.now)) }
@@ -117,6 +117,6 @@ fn first_wanted<'a>(wanted: &Wanted<'_>, script: &'a [u8]) -> &'a [u8]
             return &[];
         }
         before = or_else(word, before);
-        rest = &rest[end + 1..];
+        rest = from(rest, end + 1);
     }
 }

@@ -493,6 +493,7 @@ const TEXTS: [Advised; 99] = [
 ];
 
 /// The advice for a text where a script is refused, or just before.
+#[tactic(auto, unfolding(crate::specs::Tables::texts))]
 pub(crate) fn text_advice(text: &[u8]) -> &'static [u8]
     ensures { result.now ≡ advice_in texts text.now }
 {
@@ -515,6 +516,7 @@ const STATEMENT_WORDS: [Advised; 3] = [
 ];
 
 /// The advice for a word of a statement that is refused further behind.
+#[tactic(auto, unfolding(crate::specs::Tables::statement_words))]
 pub(crate) fn statement_advice(text: &[u8]) -> &'static [u8]
     ensures { result.now ≡ advice_in statement_words text.now }
 {
@@ -557,6 +559,7 @@ const NAME_TEXTS: [Advised; 8] = [
 ];
 
 /// The advice for what stands in the place of a name.
+#[tactic(auto, unfolding(crate::specs::Tables::name_texts))]
 pub(crate) fn name_advice(text: &[u8]) -> &'static [u8]
     ensures { result.now ≡ advice_in name_texts text.now }
 {

@@ -1,28 +1,33 @@
 -- What is advised of refusals, worked out.
-use Rattle.std.specs.Prelude.{◌≡◌, ℕ, true, false, refl, codes}
+use Rattle.std.specs.Prelude.{◌≡◌, false, refl, codes}
 use Rattle.refusal_hints.specs.Distance.{distance, is_near}
 use Rattle.refusal_hints.specs.Fields.{kind_advice}
 use Rattle.refusal_hints.specs.Hints.{spelling_advice}
 use Rattle.refusal_hints.specs.Names.{near_names}
-use Rattle.refusal_hints.specs.Tables.{averages, comments, dates, decimals, natural_joins, points}
+use Rattle.refusal_hints.specs.Tables.{averages, comments, decimals, natural_joins, points, statement_words, texts}
 use Rattle.refusal_hints.specs.Words.{word_before}
 
 -- the word before a parenthesis
 average : spelling_advice (codes "select avg(a) from r") 10 ≡ averages
+unfolding texts
 average = refl
 
 -- two bytes, of which the second is refused
 comment : spelling_advice (codes "select 1 /* one */") 10 ≡ comments
+unfolding texts
 comment = refl
 
 point : spelling_advice (codes "select 12.50") 9 ≡ points
+unfolding texts
 point = refl
 
 column-kind : spelling_advice (codes "create table r (a decimal(10, 2))") 18 ≡ decimals
+unfolding texts
 column-kind = refl
 
 -- a word of the statement, and not of the one before it
 natural : spelling_advice (codes "select 1; select * from r natural join s;") 40 ≡ natural_joins
+unfolding texts statement_words
 natural = refl
 
 before : word_before (codes "select cast ( a") 14 ≡ codes "cast"
