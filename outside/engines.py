@@ -192,7 +192,8 @@ def compare_engine(engine, case, views, tables, totals):
     elif status == FAULT:
         totals.told[f"{engine.name}: a fault there alone: {said.split(' says: ')[1].splitlines()[0]}"] += 1
     elif status in (REFUSED, ENGINE):
-        totals.told[f"{engine.name}: refused: {NAMED.sub('..', said.splitlines()[0].split(': ', 1)[1])}"] += 1
+        why = next(line for line in said.splitlines() if line.endswith(")")).split(": ", 1)[1]
+        totals.told[f"{engine.name}: refused: {NAMED.sub('..', why)}"] += 1
     else:
         totals.differs(engine.name, case, tables, given + [f"status {status}", said])
 

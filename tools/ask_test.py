@@ -122,6 +122,17 @@ class Tokens(unittest.TestCase):
     def test_sqlite_patterns(self):
         self.assertEqual(sqlite_text.glob("a%_*[?"), "a*?[*][[][?]")
 
+    def test_a_lateral_query_is_a_join_where_it_can_be(self):
+        text = """SELECT "r"."a", "y"."c" FROM "r" {} JOIN LATERAL (SELECT "s"."c" FROM "r" AS "s" WHERE "s"."c" > 2 AND (("s"."a" = "r"."a") IS TRUE)) AS "y"{};"""
+        joined = '(SELECT "s"."c", "s"."a" AS "joined_on01" FROM "r" AS "s" WHERE "s"."c" > 2 AND TRUE ) AS "y" ON "y"."joined_on01" = "r"."a"'
+        for front, behind, kind in (("CROSS", "", ""), ("LEFT", " ON TRUE", "LEFT ")):
+            self.assertIn(f'FROM "r" {kind}JOIN {joined}', self.postgres(text.format(front, behind)))
+            self.assertNotIn("json_each", self.sqlite(text.format(front, behind)))
+        for part in ('"s"."c" > 2 AND ("s"."a" / 2) = "r"."a"', '"s"."c" > 2 OR "s"."a" = "r"."a"', '"s"."a" = "r"."a" LIMIT 1'):
+            given = text.format("CROSS", "").replace('"s"."c" > 2 AND (("s"."a" = "r"."a") IS TRUE)', part)
+            self.assertIn("LATERAL", self.postgres(given))
+            self.assertIn("json_each", self.sqlite(given))
+
     def test_the_answers_columns_are_all_keys(self):
         self.assertTrue(self.postgres('SELECT "r"."a", "r"."b", "r"."c" FROM "r" ORDER BY 2 DESC;').endswith("ORDER BY 2 DESC, 1, 3"))
 

@@ -84,6 +84,8 @@ def main(given=None):
         script = script_of(asked)
         options = session.Options(asked.program, tuple(asked.without), tuple(asked.schema), asked.trusted, asked.page)
         return (as_page if asked.page else as_text)(asked, script, options)
+    except KeyboardInterrupt:
+        return 130
     except BrokenPipeError:
         os.dup2(os.open(os.devnull, os.O_WRONLY), sys.stdout.fileno())
         return 8

@@ -35,8 +35,8 @@ WHERE t.typtype <> 'd' ORDER BY d.attnum
 """
 RELATION = """
 SELECT c.oid, n.nspname FROM pg_catalog.pg_class c JOIN pg_catalog.pg_namespace n ON n.oid = c.relnamespace
-WHERE c.relname = %s AND n.nspname = ANY (%s) AND c.relkind IN ('r', 'p', 'v', 'm', 'f')
-ORDER BY array_position(%s, n.nspname::text) LIMIT 1
+WHERE c.relname = %s AND n.nspname = ANY (%s::text[]) AND c.relkind IN ('r', 'p', 'v', 'm', 'f')
+ORDER BY array_position(%s::text[], n.nspname::text) LIMIT 1
 """
 
 
