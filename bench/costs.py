@@ -11,7 +11,9 @@ The first is a check of the crate from nothing, where those below it are proved:
 this and of other clones on the machine, so for that there may be nothing kept of the crate. The second is the same of `rt
 must-fail CRATE`, of which nothing is kept either: all of its edits, whose number is NUMBER, with the check that they begin
 with. Of two lines of one crate and kind the later one counts. A line that begins with `#` is said above the table, but for
-`##`, which is left out. What the crates hold is counted here: lines that aren't blank, functions and edits.
+`##`, which is left out. `bench/processes.py` takes such lines of a run of the gate. What the crates hold is counted here: lines that
+aren't blank, functions and edits; and of the figures and of what each crate uses, how long a run from nothing takes on four
+processors and on two, where each begins what has the longest chain of crates behind it.
 """
 import pathlib
 import re
@@ -70,6 +72,42 @@ def crate_row(folder, figures):
     ]
 
 
+def uses_of():
+    """The crates that each uses, in the order of crates.txt."""
+    lines = [line for line in (TOP / "crates.txt").read_text().splitlines() if line and line[0] != "#"]
+    return {line.split(":")[0].split()[0]: line.split(":")[1].split() for line in lines}
+
+
+def jobs_of(figures, uses):
+    """What a run has to do: the seconds of each job, what it waits for, and the chain of seconds that begins with it."""
+    jobs = {}
+    for name, used in uses.items():
+        known = figures.get(name, {})
+        jobs[name, "check"] = known.get("check", [0])[0], [(other, "check") for other in used if other in uses]
+        if "edits" in known:
+            jobs[name, "edits"] = known["edits"][0], [(name, "check")]
+    chains = {}
+    for job in reversed(list(jobs)):
+        behind = [chains[other] for other in chains if job in jobs[other][1]]
+        chains[job] = jobs[job][0] + max(behind, default=0)
+    return jobs, chains
+
+
+def wall(figures, uses, processors):
+    """The seconds that a run takes on so many processors."""
+    jobs, chains = jobs_of(figures, uses)
+    now, left, running, done = 0.0, set(jobs), [], set()
+    while left or running:
+        ready = sorted((job for job in left if all(other in done for other in jobs[job][1])), key=lambda job: -chains[job])
+        for job in ready[: processors - len(running)]:
+            left.discard(job)
+            running.append((now + jobs[job][0], job))
+        now, job = min(running)
+        running.remove((now, job))
+        done.add(job)
+    return now
+
+
 def shown(figure):
     return "" if figure is None else f"{figure:,.0f}"
 
@@ -86,6 +124,10 @@ def main():
     table += [[name if name == "all" else f"`{name}`"] + [shown(figure) for figure in row] for name, row in rows.items()]
     text = HEAD + "\n" + "".join(note + "\n" for note in notes) + "\n" * bool(notes)
     text += "".join("| " + " | ".join(cells) + " |\n" for cells in table)
+    uses = uses_of()
+    sums = [sum(known.get(kind, [0])[0] for name, known in figures.items() if name in uses) / 60 for kind in ("check", "edits")]
+    text += f"\nBy these figures a run from nothing takes {sums[0]:.0f} processor minutes for proofs and {sums[1]:.0f} for edits: "
+    text += " and ".join(f"{wall(figures, uses, processors) / 60:.0f} minutes on {word} processors" for processors, word in ((4, "four"), (2, "two"))) + ".\n"
     (TOP / "docs" / "COSTS.md").write_text(text)
 
 

@@ -15,7 +15,7 @@ import sys
 
 TOP = pathlib.Path(__file__).resolve().parent.parent
 BEGINNINGS = re.compile(
-    r"(?:PERM=\S+ )?(?:(?:\./(?:perm|build|check|page|ask)|(?:outside|examples|tools)/\w+\.py|bench/(?:\w+\.py|\w+))(?: |$)|(?:rt|perm|apt-get) )"
+    r"(?:PERM=\S+ )?(?:(?:\./(?:perm|build|check|page|ask|csv-in|csv-out|watch)|(?:outside|examples|tools)/\w+\.py|bench/(?:\w+\.py|\w+))(?: |$)|(?:rt|perm|apt-get|cat|mkdir) )"
 )
 BLOCK = re.compile(r"^```(.*)\n((?:.*\n)*?)```$", re.M)
 SECONDS = 60

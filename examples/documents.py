@@ -99,7 +99,9 @@ def check(program, document, folder):
     for block, behind, further in zip(blocks, blocks[1:] + [None], blocks[2:] + [None, None]):
         words = block[1].split()
         if words[:1] == ["csv"]:
-            pathlib.Path(folder, words[1]).write_text(block[2])
+            file = pathlib.Path(folder, words[1])
+            file.parent.mkdir(parents=True, exist_ok=True)
+            file.write_text(block[2])
         if words[:1] == ["sqlite"]:
             make_database(os.path.join(folder, words[1]), block[2])
         if words == ["refusals"]:

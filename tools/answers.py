@@ -18,6 +18,18 @@ COUNT = re.compile(rb"\((\d+) rows\)\n")
 REFUSAL = re.compile(rb"error [DE](\d\d)(?: at (\d+)| [a-z0-9 ]+)?\n\Z")
 
 
+TOP = pathlib.Path(__file__).resolve().parent.parent
+READY = 'top=$1; . "$top/tools/built.sh" && is_built || exec python3 "$top/tools/kept.py" make'
+
+
+def program():
+    """The program that PERM names, or ./perm; of that first an unproved program is made, where there is none, and it is said how far that is."""
+    named = os.environ.get("PERM")
+    if not named:
+        subprocess.run(["bash", "-c", READY, "bash", TOP], stdin=subprocess.DEVNULL, stdout=subprocess.DEVNULL)
+    return named or str(TOP / "perm")
+
+
 class Bare(str):
     """A field without quotes: an integer or a truth value. NULL is None, and a text is a plain str."""
 
@@ -58,14 +70,26 @@ def table(text):
     return Table(list(names), rows) if fits else None
 
 
+@dataclass(frozen=True)
+class Rows:
+    """What is known of a table's rows: the names of its columns, how often each row stands that stands several times, and how many others there
+    are than these; None where it wasn't asked."""
+
+    columns: tuple
+    times: dict
+    distinct: int | None = None
+
+
 @dataclass
 class Answer:
-    """What a statement answered. `plain` is what it answers without the word PROVENANCE, where it has that."""
+    """What a statement answered. `plain` is what it answers without the word PROVENANCE, where it has that; `equal` has what is
+    known of the tables' rows."""
 
     statement: scripts.Statement
     text: bytes
     plain: Table | None = None
     relations: dict = field(default_factory=dict)
+    equal: dict = field(default_factory=dict)
 
 
 @dataclass
@@ -85,22 +109,53 @@ def run(program, script):
 
 @dataclass(frozen=True)
 class Question:
-    """A query of our own behind the statement of this number: of the columns of what it made, or of its plain answer."""
+    """A query of our own behind the statement of this number: of the columns of what it made, of its plain answer, or, with the table's name,
+    of the rows of a table that stand several times, or of their number."""
 
     statement: int
     text: bytes
+    table: bytes | None = None
+    counts_all: bool = False
+
+
+def without_word(script, statement, word):
+    """The text of the query without the word PROVENANCE, as long as with it."""
+    return script[statement.start:word.start] + b" " * (word.end - word.start) + script[word.end:statement.end]
+
+
+def of_equal_rows(table, columns):
+    names = b", ".join(map(scripts.quoted, columns))
+    return b"SELECT %s, COUNT(*) FROM %s GROUP BY %s HAVING COUNT(*) > 1" % (names, scripts.quoted(table), names)
 
 
 def questions(script, statements):
-    found = []
+    found, tables, changed = [], {}, set()
     for number, statement in enumerate(statements):
         word = statement.provenance()
         if word:
-            text = script[statement.start:word.start] + b" " * (word.end - word.start) + script[word.end:statement.end]
-            found.append(Question(number, text))
+            found.append(Question(number, without_word(script, statement, word)))
+            for it in sorted(changed):
+                found.append(Question(number, of_equal_rows(it, tables[it]), it))
+                found.append(Question(number, b"SELECT COUNT(*) FROM " + scripts.quoted(it), it, True))
+            changed.clear()
         elif statement.made():
             found.append(Question(number, b"SELECT * FROM " + scripts.quoted(statement.made()) + b" LIMIT 0"))
+        note_tables(statement, tables, changed)
     return found
+
+
+def note_tables(statement, tables, changed):
+    """Keeps which tables there are, with their columns, and which of them changed since they were asked of."""
+    name = statement.changed()
+    if name is None:
+        return
+    if statement.begins(b"drop") or statement.begins(b"create"):
+        tables.pop(name, None)
+        changed.discard(name)
+    if statement.columns():
+        tables[name] = statement.columns()
+    if name in tables:
+        changed.add(name)
 
 
 def asked_script(script, statements, asked, mark):
@@ -170,15 +225,29 @@ def ask(program, script, told):
 
 
 def joined(statements, order, moved, found, told):
-    answers, relations = [], {}
+    answers, relations, equal = [], {}, {}
     for item, text in zip(order, found):
         if isinstance(item, int):
             statement = statements[item]
-            answers.append(Answer(statement, moved_back(text, statement, moved[item]), relations=dict(relations)))
+            equal.pop(statement.changed() and statement.changed().decode(), None)
+            answers.append(Answer(statement, moved_back(text, statement, moved[item]), relations=dict(relations), equal=dict(equal)))
             continue
         answered = table(text)
-        if statements[item.statement].provenance():
+        if item.table is not None and answered:
+            name = item.table.decode()
+            known = counted(equal.get(name), answered) if item.counts_all else repeated(answered)
+            equal[name] = answers[-1].equal[name] = known
+        elif statements[item.statement].provenance():
             answers[-1].plain = answered
         elif answered:
             relations.setdefault(statements[item.statement].made().decode(), []).append(answered.names)
     return answers if b"".join(it.text for it in answers) == told.written else None
+
+
+def repeated(answered):
+    return Rows(tuple(answered.names[:-1]), {row[:-1]: int(row[-1]) for row in answered.rows})
+
+
+def counted(known, answered):
+    """What is known of a table's rows, and how many different ones there are."""
+    return known and Rows(known.columns, known.times, int(answered.rows[0][0]) - sum(it - 1 for it in known.times.values()))

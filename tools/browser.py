@@ -91,8 +91,13 @@ class Browser:
     def open(self, path, width=1100, height=800):
         """Opens the file, and waits until it is loaded."""
         self.call("Emulation.setDeviceMetricsOverride", width=width, height=height, deviceScaleFactor=1, mobile=False)
+        # From a page to a place of its own nothing would be loaded.
+        for address in ("about:blank", f"file://{os.path.abspath(path)}"):
+            self.load(address)
+
+    def load(self, address):
         self.events.clear()
-        self.call("Page.navigate", url=f"file://{os.path.abspath(path)}")
+        self.call("Page.navigate", url=address)
         while not any(it.get("method") == "Page.loadEventFired" for it in self.events):
             self.events.append(self.message())
 

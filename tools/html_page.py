@@ -2,6 +2,7 @@
 import base64
 import hashlib
 import html
+import json
 import pathlib
 import re
 
@@ -9,6 +10,7 @@ import answers
 import places
 import refusals
 import scripts
+import traced
 
 HERE = pathlib.Path(__file__).resolve().parent
 RESERVED = set(
@@ -16,6 +18,8 @@ RESERVED = set(
     "group having in inner insert intersect into is join left like limit not null on or order outer provenance right select some table "
     "then true union unknown values when where view copy show fresh header explain rewrite impact of lateral".split()
 )
+# An answer with more source rows and rows than these is put into the document by the page's script, as far as it is to be seen.
+LARGE = 2000
 # Characters that a browser wouldn't show, or would take for something else.
 UNSHOWN = re.compile("[\x00-\x08\x0b\x0c\x0e-\x1f\x7f-\x9f\u202a-\u202e\u2066-\u2069]")
 ENDED = {
@@ -33,8 +37,12 @@ ENDED = {
 }
 
 
+def visible(text):
+    return UNSHOWN.sub(lambda it: f"\\u{ord(it[0]):04x}", text)
+
+
 def shown(text):
-    return html.escape(UNSHOWN.sub(lambda it: f"\\u{ord(it[0]):04x}", text))
+    return html.escape(visible(text))
 
 
 def read(data):
@@ -57,15 +65,21 @@ def head(names, rows):
     """The heads of columns, those of numbers to the right."""
     cells = []
     for at, name in enumerate(names):
-        values = [row[at] for row in rows if row[at] is not None]
-        numbers = values and all(isinstance(it, answers.Bare) and it not in ("true", "false") for it in values)
-        cells.append(f"<th scope=col{' class=n' if numbers else ''}>{shown(name)}")
+        cells.append(f"<th scope=col{' class=n' if kind(rows, at) == 'n' else ''}>{shown(name)}")
     return "".join(cells)
+
+
+def kind(rows, at):
+    """What the column's values are: n for integers, b for truth values, t for texts."""
+    value = next((row[at] for row in rows if row[at] is not None), "")
+    if not isinstance(value, answers.Bare):
+        return "t"
+    return "b" if value in ("true", "false") else "n"
 
 
 def plain_table(table):
     rows = "".join("<tr>" + "".join(map(cell, row)) + "\n" for row in table.rows)
-    return f"<table class=rows><thead><tr>{head(table.names, table.rows)}<tbody>\n{rows}</table>\n<p class=count>{number(len(table.rows), 'row')}</p>\n"
+    return f"<div class=scroll><table class=rows><thead><tr>{head(table.names, table.rows)}<tbody>\n{rows}</table></div>\n<p class=count>{number(len(table.rows), 'row')}</p>\n"
 
 
 def ranges(numbers, dash, comma):
@@ -92,75 +106,116 @@ class Marks:
         return self.known.setdefault((source.name, source.columns, row), len(self.known))
 
 
-def source_rows(source, witnesses):
-    """The rows of a source in these witnesses, each with the numbers of those in which it stands."""
-    rows = {}
-    for at, witness in enumerate(witnesses, 1):
-        rows.setdefault(witness[source.start:source.end], []).append(at)
-    return rows
-
-
-def is_empty(row):
-    return all(it is None for it in row)
-
-
-def source_table(source, rows, count, marks):
+def source_table(source, rows, count, marks, equal):
     """The table of a source's rows; with several witnesses each row tells those in which it stands."""
-    told, lines = [row for row in rows if not is_empty(row)], []
+    told, lines = [row for row in rows if not traced.is_empty(row)], []
+    repeated = any(it in equal for it in told)
     for row, standing in rows.items():
-        where = f"<td class=w>{ranges(standing, '–', ', ')}" if count > 1 else ""
-        if is_empty(row):
+        where = f"<td class='w t'>{f'{equal[row]} times' if row in equal else ''}" if repeated else ""
+        where += f"<td class=w>{ranges(standing, '–', ', ')}" if count > 1 else ""
+        if traced.is_empty(row):
             lines.append(f"<tr class=none><td colspan={len(source.columns)}>empty{where}\n")
         else:
             marked = f'data-k={marks.of(source, row)} data-w="{ranges(standing, "-", " ")}"'
             lines.append(f"<tr tabindex=0 {marked}>{''.join(map(cell, row))}{where}\n")
     title = f"{shown(places.title(source))} <small>{number(len(told), 'row') if told else 'empty'}</small>"
-    witness = "<th scope=col class=w>in witness" if count > 1 else ""
-    return f"<table class=source><caption>{title}</caption><thead><tr>{head(source.columns, told)}{witness}<tbody>\n{''.join(lines)}</table>\n"
-
-
-def summary(sources, found, count, times):
-    parts = []
-    for source, rows in zip(sources, found):
-        told = sum(not is_empty(row) for row in rows)
-        parts.append(f"{number(told, 'row')} of {shown(places.title(source))}" if told else f"{shown(places.title(source))} empty")
-    often = f"stands {times} times in the plain answer; " if times > 1 else ""
-    witnesses = f"{often}from <b>{number(count, 'witness', 'witnesses')}</b>"
-    return f"{witnesses}: {', '.join(parts)}" if parts else witnesses
-
-
-def traced_table(table, plain, sources):
-    """An answer with provenance: each row of the query's own columns once, and under it its witnesses, a table a source."""
-    own = len(plain.names)
-    grouped, times = {}, {}
-    for row in table.rows:
-        grouped.setdefault(row[:own], []).append(row[own:])
-    for row in plain.rows:
-        times[row] = times.get(row, 0) + 1
-    marks, lines, empty = Marks(), [], False
-    for row, witnesses in grouped.items():
-        found = [source_rows(source, witnesses) for source in sources]
-        empty = empty or any(is_empty(it) for rows in found for it in rows)
-        tables = "".join(source_table(source, rows, len(witnesses), marks) for source, rows in zip(sources, found))
-        lines.append(
-            f"<tr class=row>{''.join(map(cell, row))}<td class=fill>\n<tr class=from><td colspan={own + 1}><details>"
-            f"<summary>{summary(sources, found, len(witnesses), times.get(row, 1))}</summary><div class=sources>\n{tables}</div></details>\n"
-        )
-    tools = "<p class=tools><button type=button data-open=yes>Open all</button><button type=button data-open=no>Close all</button></p>\n"
-    total = f"<p class=count>{number(len(grouped), 'row')}, {number(len(table.rows), 'witness', 'witnesses')} in all{EMPTY if empty else ''}</p>\n"
+    further = ["<th scope=col class='w t'>equal rows"] * repeated + ["<th scope=col class=w>in witness"] * (count > 1)
+    foot = sums(told, rows, equal, len(further))
     return (
-        f"{tools if len(grouped) > 1 else ''}<table class='rows why'><thead><tr>{head(plain.names, list(grouped))}<th class=fill><tbody>\n"
-        f"{''.join(lines)}</table>\n{total}"
+        f"<div class=one><table class=source><caption>{title}</caption><thead><tr>{head(source.columns, told)}{''.join(further)}<tbody>\n"
+        f"{''.join(lines)}{foot}</table></div>\n"
     )
 
 
-def traced(answer, table, aliases):
-    own = len(answer.plain.names) if answer.plain else None
-    if own is None or table.names[:own] != answer.plain.names or {row[:own] for row in table.rows} != set(answer.plain.rows):
+def sums(told, rows, equal, further):
+    """The sums of columns of integers, each row as often as it stands in its table."""
+    kinds = [kind(told, at) for at in range(len(told[0]))] if told else []
+    if "n" not in kinds:
+        return ""
+    cells = []
+    for at, it in enumerate(kinds):
+        if it != "n":
+            cells.append("<td>")
+            continue
+        values = [(int(row[at]), equal.get(row, 1), len(rows[row])) for row in told if row[at] is not None]
+        each = sum(value * standing for value, _, standing in values)
+        title = f"each row as often as it stands in its table; over the witnesses {each}"
+        cells.append(f'<td class=n title="{title}"><span class=word>sum </span>{sum(value * times for value, times, _ in values)}')
+    return f"<tfoot><tr>{''.join(cells)}{'<td class=w>' * further}\n"
+
+
+def summary(sources, found, count, times, equal):
+    """What is said of a figure's witnesses: before the number of these, the number, and behind it."""
+    parts = []
+    for source, rows, known in zip(sources, found, equal):
+        told = [row for row in rows if not traced.is_empty(row)]
+        title = visible(places.title(source))
+        more = sum(known.times.get(row, 1) for row in told)
+        often = f" (with equal ones {more})" if more > len(told) else ""
+        every = "all " if len(told) == known.distinct and len(told) > 1 else ""
+        parts.append(f"{every}{number(len(told), 'row')}{often} of {title}" if told else f"{title} empty")
+    before = f"stands {times} times in the plain answer; from " if times > 1 else "from "
+    return before, number(count, "witness", "witnesses"), f": {', '.join(parts)}" if parts else ""
+
+
+def row_name(at, place):
+    """What an address names a figure by: the number of its statement, and its place in the answer."""
+    return f"s{at}r{place + 1}"
+
+
+def figure_rows(at, place, figure, sources, marks, equal):
+    before, strong, behind = map(html.escape, summary(sources, figure.sources, figure.count(), figure.times, equal))
+    tables = "".join(source_table(source, rows, figure.count(), marks, known.times) for source, rows, known in zip(sources, figure.sources, equal))
+    return (
+        f"<tr class=row id={row_name(at, place)}>{''.join(map(cell, figure.row))}<td class=fill>\n<tr class=from><td colspan={len(figure.row) + 1}>"
+        f"<details data-i={place}><summary>{before}<b>{strong}</b>{behind}</summary><div class=sources>\n{tables}</div></details>\n"
+    )
+
+
+def source_data(source, rows, marks, equal):
+    return [[marks.of(source, row), ranges(standing, "-", " "), equal.get(row, 1), row] for row, standing in rows.items()]
+
+
+def data(table, figures, sources, marks, equal):
+    """The answer as the page's script reads it: no text of it can end the element in which it stands."""
+    own = len(figures[0].row) if figures else len(table.names) - sum(it.end - it.start for it in sources)
+    of_sources = [
+        {"title": visible(places.title(it)), "columns": it.columns, "names": table.names[own + it.start:own + it.end],
+         "kinds": [kind(table.rows, own + column) for column in range(it.start, it.end)]}
+        for it in sources
+    ]
+    of_figures = [
+        [it.row, it.times, it.count(), summary(sources, it.sources, it.count(), it.times, equal), [source_data(source, rows, marks, known.times) for source, rows, known in zip(sources, it.sources, equal)]]
+        for it in figures
+    ]
+    told = {"names": table.names[:own], "kinds": [kind(table.rows, at) for at in range(own)], "sources": of_sources, "figures": of_figures}
+    return f"<script type=application/json class=data>{json.dumps(told, separators=(',', ':')).replace('<', chr(92) + 'u003c')}</script>\n"
+
+
+def traced_table(at, answer, table, sources):
+    """An answer with provenance: each row of the query's own columns once, and under it its witnesses, a table a source."""
+    figures, marks = traced.figures(answer, table, sources), Marks()
+    equal = [traced.known_rows(answer, it) for it in sources]
+    size = len(figures) + sum(len(rows) for it in figures for rows in it.sources)
+    large = size > LARGE
+    lines = "" if large else "".join(figure_rows(at, place, it, sources, marks, equal) for place, it in enumerate(figures))
+    note = "<noscript><p class=note>This answer is large: the page's script shows it, and scripts are off.</p></noscript>\n" if large else ""
+    buttons = "<button type=button data-open=yes>Open all</button><button type=button data-open=no>Close all</button>"
+    tools = f"<p class=tools>{buttons}{' of those that are shown ' if large else ' '}</p>\n" if len(figures) > 1 else ""
+    empty = EMPTY if any(it.has_empty() for it in figures) else ""
+    total = f"<p class=count>{number(len(figures), 'row')}, {number(len(table.rows), 'witness', 'witnesses')} in all{empty}</p>\n"
+    return (
+        f"{note}{tools}<div class=scroll><table class='rows why' data-at={at}{' data-large' * large}><thead><tr>{head(answer.plain.names, [it.row for it in figures])}"
+        f"<th class=fill><tbody>\n{lines}</table></div>\n{total}{data(table, figures, sources, marks, equal)}"
+    )
+
+
+def traced_answer(at, answer, table, aliases):
+    if not traced.is_told(answer, table):
         return "<p class=note>How many of these columns are the query's own can't be told.</p>\n" + plain_table(table)
-    sources, alone = places.sources(table.names[own:], answer.relations, aliases)
+    sources, alone = traced.sources(answer, table, aliases)
     note = "" if alone else "<p class=note>The names of these columns can be read in several ways, so some of the sources aren't told apart.</p>\n"
-    return note + traced_table(table, answer.plain, sources)
+    return note + traced_table(at, answer, table, sources)
 
 
 def freshness(answer):
@@ -203,13 +258,13 @@ def comments(statement):
     return f"<p class=comment>{read(b' '.join(it for it in lines if it))}</p>\n" if any(lines) else ""
 
 
-def answered(script, answer, aliases, known):
+def answered(at, script, answer, aliases, known):
     """What the statement answered; the second is whether it is a line."""
     if answers.REFUSAL.match(answer.text):
         return refusal(script, answer.text, known), False
     table = answers.table(answer.text)
     if table and answer.statement.provenance():
-        return traced(answer, table, aliases), False
+        return traced_answer(at, answer, table, aliases), False
     if table:
         return plain_table(table), False
     fresh = freshness(answer) if answer.statement.begins(b"show", b"fresh") else None
@@ -220,11 +275,11 @@ def answered(script, answer, aliases, known):
     return f"<pre class=text>{read(answer.text)}</pre>\n" if answer.text else "", False
 
 
-def statement_part(script, statement, answer, aliases, known):
+def statement_part(at, script, statement, answer, aliases, known):
     code = f"<pre class=sql><code>{highlighted(script, statement)}</code></pre>"
     if answer is None:
         return f"{comments(statement)}<article class=unrun>{code}<p class=count>not run</p></article>\n"
-    text, line = answered(script, answer, aliases, known)
+    text, line = answered(at, script, answer, aliases, known)
     return f"{comments(statement)}<article{' class=quiet' if line else ''}>{code}\n{text}</article>\n"
 
 
@@ -236,21 +291,25 @@ def body(script, told, known):
         return f"{note}<pre class=text>{read(told.written)}</pre>\n{why}"
     aliases, statements = places.aliases(script), scripts.statements(script)
     found = told.answers + [None] * (len(statements) - len(told.answers))
-    return "".join(statement_part(script, statement, answer, aliases, known) for statement, answer in zip(statements, found))
+    return "".join(statement_part(at, script, *pair, aliases, known) for at, pair in enumerate(zip(statements, found), 1))
 
 
 def checksum(text):
     return "'sha256-" + base64.b64encode(hashlib.sha256(text.encode()).digest()).decode() + "'"
 
 
-def page(name, script, told, known):
+def page(name, script, told, known, renewing=""):
+    """The page; with a script that renews it, where it is served, which may ask its own server."""
     style, code = ((HERE / file).read_text() for file in ("page.css", "page.js"))
-    policy = f"default-src 'none'; style-src {checksum(style)}; script-src {checksum(code)}; base-uri 'none'; form-action 'none'"
-    said = "".join(f"<p class=note>{read(line)}</p>\n" for line in refusals.without_note(told.said).splitlines()[:20])
+    runs = [code, renewing] if renewing else [code]
+    policy = f"default-src 'none'; style-src {checksum(style)}; script-src {' '.join(map(checksum, runs))}; base-uri 'none'; form-action 'none'"
+    policy += "; connect-src 'self'" if renewing else ""
+    lines = [it for it in refusals.without_note(told.said).splitlines() if not it.startswith(b"perm: .. ")]
+    said = "".join(f"<p class=note>{read(line)}</p>\n" for line in lines[:20])
     lead = ENDED.get(told.status, "The program gave no answer.")
     return (
         f'<!doctype html>\n<html lang=en>\n<head>\n<meta charset=utf-8>\n<meta http-equiv=Content-Security-Policy content="{policy}">\n'
         f'<meta name=viewport content="width=device-width, initial-scale=1">\n<title>{shown(name)}</title>\n<style>{style}</style>\n</head>\n<body>\n'
         f"<header><h1>{shown(name)}</h1><p class=lead>{lead}</p>\n{said}</header>\n<main>\n{body(script, told, known)}</main>\n"
-        f"<p id=told role=status></p>\n<script>{code}</script>\n</body>\n</html>\n"
+        f"<p id=told role=status></p>\n{''.join(f'<script>{it}</script>' for it in runs)}\n</body>\n</html>\n"
     )

@@ -74,6 +74,20 @@ class Statement:
         return None
 
 
+    def columns(self):
+        """The names of the columns of a table that the statement makes by naming them; None where it makes none so."""
+        if not self.begins(b"create", b"table") or len(self.tokens) < 6 or not self.tokens[3].is_mark(b"("):
+            return None
+        return [word.value for before, word in zip(self.tokens[3:], self.tokens[4:]) if (before.is_mark(b"(") or before.is_mark(b",")) and word.is_name()]
+
+    def changed(self):
+        """The name of the table that the statement makes, fills, empties or drops; None where it leaves all as they are."""
+        for words in ((b"create", b"table"), (b"drop", b"table"), (b"insert", b"into"), (b"delete", b"from"), (b"copy",)):
+            if self.begins(*words) and len(self.tokens) > len(words):
+                return self.tokens[len(words)].value
+        return None
+
+
 def statements(script):
     """The statements of the bytes, in order."""
     found, words, comments = [], [], []

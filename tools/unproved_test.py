@@ -106,6 +106,7 @@ def main():
                 told = subprocess.run([sys.executable, HERE / "unproved.py", *words], cwd=folder, env=given, capture_output=True)
                 answer = (1, b"") if words and words[0] in NO_ANSWER else (proved.returncode, proved.stdout)
                 first, said = told.stderr.split(b"\n", 1)
+                said = b"".join(it for it in said.splitlines(keepends=True) if not it.startswith(b"perm: .. "))
                 if (told.returncode, told.stdout) != answer or b"unproved" not in first or said != proved.stderr and answer[0] != 1:
                     print(f"unproved: perm {' '.join(words)}: status {told.returncode}, {told.stdout[:500]}, {said}", file=sys.stderr)
                     failed = True
