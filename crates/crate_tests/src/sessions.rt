@@ -108,7 +108,8 @@ const SPENT: StepRefusal = StepRefusal::Break(Break {
 fn takes_from(alloc: Global, next: u64, turns: &[Turn<'_>]) -> Result<bool, NoMemory> {
     catalogs_stay_sound();
     let mut files = no_files(alloc)?;
-    let mut session = Session::with(alloc, Catalog::new(alloc, next));
+    let catalog = Catalog::new(alloc, next);
+    let mut session = Session::with(alloc, catalog);
     let taken = takes(alloc, &mut session, &mut files, turns);
     drop(session);
     Ok(taken)

@@ -3,4 +3,4 @@ use Rattle.perm_catalog.specs.Sound.{IsSound}
 use Rattle.crate_tests.proofs.sessions.takes_from.Goals as goal
 
 pub with-session-requires : goal.with-session-requires
-with-session-requires c = subst IsSound (sym c.new.ensures) (c.catalogs_stay_sound.ensures.new c.args.next)
+with-session-requires c = subst IsSound (sym c.new-catalog.ensures) (c.catalogs_stay_sound.ensures.new c.args.next)
