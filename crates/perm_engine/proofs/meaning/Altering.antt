@@ -5,7 +5,6 @@ use Rattle.std.specs.List.{count_by}
 use Rattle.perm_values.specs.Numbers.{last_number}
 use Rattle.perm_values.specs.declared.kind.Kind.{Kind}
 use Rattle.perm_values.proofs.Lists.{back-none}
-use Rattle.perm_values.specs.Marked.{unmarked}
 use Rattle.bag_algebra.proofs.BagLaws.{member_decides}
 use Rattle.bag_algebra.proofs.Members.{member-in}
 use Rattle.bag_algebra.proofs.Outcomes.{both-is, same_good}
@@ -16,7 +15,7 @@ use Rattle.csv_tables.specs.Loading.{broken_rules, spelled_rows}
 use Rattle.csv_tables.specs.declared.data_error.DataError.{DataError}
 use Rattle.delete_impact.specs.vanishing.Doomed.{doomed_on}
 use Rattle.name_meaning.specs.Meanings.{QueryMeant, broken}
-use Rattle.name_meaning.specs.Statements.{answer_of, breaks, defined_columns, delete_made, kinds_of_table, limit_breaks, name_breaks, named_query_breaks, query_limits, query_meant, resolved, resolved_body, rows_made, taken, view_entry}
+use Rattle.name_meaning.specs.Statements.{answer_of, breaks, defined_columns, delete_made, kinds_of_table, limit_breaks, name_breaks, named_query_breaks, query_meant, resolved, resolved_body, rows_made, taken, view_entry}
 use Rattle.name_meaning.specs.declared.answer.Resolved.{Resolved}
 use Rattle.name_meaning.specs.declared.answer.Resolved.TheVariants as r
 use Rattle.name_meaning.specs.declared.rule.Rule.TheVariants as rule
@@ -25,7 +24,6 @@ use Rattle.perm_catalog.specs.Contents.{Contents}
 use Rattle.perm_catalog.specs.Sound.{IsSound}
 use Rattle.perm_catalog.specs.declared.entries.ViewEntry.{ViewEntry}
 use Rattle.perm_io.specs.Found.{Found, Read, Missing, TooLong, Failed}
-use Rattle.query_laws.specs.Holding.{InBag}
 use Rattle.sql_tree.specs.Regular.{RegularStatement}
 use Rattle.sql_tree.specs.declared.expression.ExprTree.{ExprTree}
 use Rattle.sql_tree.specs.declared.name.Name.{Name}
@@ -40,15 +38,15 @@ use Rattle.statement_meaning.proofs.Left.{left-rows}
 use Rattle.statement_meaning.proofs.Ready.{names-whole, query-whole, whole-ready}
 use Rattle.statement_meaning.proofs.Sounder.{known}
 use Rattle.statement_meaning.specs.laws.Asks.{AsksFor}
-use Rattle.statement_meaning.specs.laws.Kept.{is_certain, rows_left}
+use Rattle.statement_meaning.specs.laws.Kept.{is_certain}
 use Rattle.statement_meaning.specs.Answers.{TakesTurn}
 use Rattle.statement_meaning.specs.Asking.{asks}
 use Rattle.statement_meaning.specs.Ready.{IsReady}
-use Rattle.statement_meaning.specs.Turns.{Turn, Accepted, Refused, Broken, Unfit, add_rows, add_unbroken, copy, counting, drawing, identity_of, on_good, row_value, rows_deleted, with_added}
+use Rattle.statement_meaning.specs.Turns.{Turn, Accepted, Refused, Broken, add_rows, add_unbroken, copy, counting, drawing, identity_of, on_good, row_value, rows_deleted, with_added}
 use Rattle.perm_engine.proofs.meaning.HeadlineSteps.{IsDone}
 use Rattle.perm_engine.proofs.meaning.Replacing.{has-added, has-left, new-columns, new-nothing, new-others, new-rows, rows-named, table-gone, table-others, view-gone, view-there, views-beside, views-left}
 use Rattle.perm_engine.proofs.meaning.Twins.{limits-of, no-breaks}
-use Rattle.perm_engine.specs.meaning.headline.Changes.{CopiesRows, CreatesTable, CreatesView, DeletesRows, DropsTable, DropsView, HasRowsThen, InsertsRows, rows_gone, rows_of}
+use Rattle.perm_engine.specs.meaning.headline.Changes.{CopiesRows, CreatesTable, CreatesView, DeletesRows, DropsTable, DropsView, HasRowsThen, InsertsRows, rows_of}
 use Rattle.perm_engine.specs.meaning.headline.Words.{asking}
 
 -- ---- what is accepted

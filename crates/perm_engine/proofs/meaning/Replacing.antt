@@ -1,11 +1,10 @@
 -- What a change of the catalog leaves of the table or the view that it speaks of, and of all others.
-use Rattle.std.proofs.Common.{◌≡◌, ◌≢◌, ◌∙◌, ℕ, Bool, true, cond, List, [], ◌++◌, Option, Some, None, is_some, refl, sym, ap, subst, arith, nat_eq}
+use Rattle.std.proofs.Common.{◌≡◌, ◌≢◌, ◌∙◌, ℕ, Bool, true, cond, List, [], ◌++◌, Option, Some, None, is_some, refl, sym, ap, arith, nat_eq}
 use Rattle.std.specs.Cmp.Lexicographic.{pointwise}
 use Rattle.std.specs.FinMap as map
 use Rattle.std.specs.FinMap.{FinMap}
 use Rattle.std.specs.Option.{option_map, option_map_or, unwrap_or}
 use Rattle.std.specs.Ordering.{nat_cmp}
-use Rattle.perm_values.proofs.Steps.{none_is_some}
 use Rattle.perm_values.specs.Marked.{unmarked}
 use Rattle.bag_algebra.specs.Bags.{Bag}
 use Rattle.perm_catalog.proofs.Named.{found-apart, found-here, named-changed, named-last, named-without}

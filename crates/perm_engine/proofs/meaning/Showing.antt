@@ -11,7 +11,6 @@ use Rattle.bag_algebra.specs.declared.query.Query.{Query}
 use Rattle.contribution.specs.SameMeaning.{SameMeaning}
 use Rattle.name_meaning.specs.Statements.{resolved, resolved_body}
 use Rattle.name_meaning.specs.declared.answer.Resolved.{Resolved}
-use Rattle.name_meaning.specs.declared.answer.Resolved.TheVariants as r
 use Rattle.perm_catalog.specs.Changes.{table_named}
 use Rattle.perm_catalog.specs.Contents.{Contents}
 use Rattle.perm_catalog.specs.Held.{IsHeldTable}
