@@ -115,9 +115,12 @@ class Tokens(unittest.TestCase):
         self.assertIn("ORDER BY 2 DESC NULLS FIRST, 1 NULLS LAST LIMIT 1", self.sqlite(
             'SELECT "q"."a" FROM (SELECT "r"."a", "r"."b" FROM "r" ORDER BY 2 DESC, 1 LIMIT 1) AS "q";'))
 
-    def test_sqlite_refuses_copies_of_rows(self):
+    def test_sqlite_numbers_copies_of_rows(self):
+        one, other = ('SELECT *, ROW_NUMBER() OVER (PARTITION BY "{}") AS "copy" FROM ('.format(it) for it in "ab")
+        self.assertEqual(self.sqlite('SELECT "r"."a" FROM "r" EXCEPT ALL SELECT 1 AS "b";'),
+                         f'SELECT "a" FROM ({one}SELECT `r`.`a` FROM `r`) EXCEPT {other}SELECT 1 AS `b`)) ORDER BY 1 NULLS LAST')
         with self.assertRaises(Unsayable):
-            self.sqlite('SELECT "r"."a" FROM "r" EXCEPT ALL SELECT 1 AS "a";')
+            self.sqlite('SELECT "r"."a", "r"."a" FROM "r" EXCEPT ALL SELECT 1 AS "a", 2 AS "b";')
 
     def test_sqlite_patterns(self):
         self.assertEqual(sqlite_text.glob("a%_*[?"), "a*?[*][[][?]")
@@ -203,6 +206,7 @@ SELECT PROVENANCE x.a, m FROM r x LEFT JOIN LATERAL (SELECT y.a AS m FROM r y WH
 SELECT x.a, y.b FROM r x FULL JOIN r y ON x.a < y.a ORDER BY 2 DESC;
 SELECT a FROM r ORDER BY a LIMIT 3; SELECT a / 2 AS q, a % 2 AS m, -a AS n, b LIKE '_' AS l, b NOT LIKE 'z%' AS k FROM r;
 SELECT PROVENANCE b, COUNT(*) FROM r GROUP BY b UNION ALL SELECT b, NULL FROM r INTERSECT SELECT 'x', 1;
+SELECT b FROM r UNION ALL SELECT b FROM r EXCEPT ALL SELECT b FROM r INTERSECT ALL SELECT NULL FROM r ORDER BY 1 DESC;
 """
         with tempfile.TemporaryDirectory() as folder:
             pathlib.Path(folder, "s.sql").write_text(made + asks)

@@ -1,4 +1,5 @@
 """SQLite as an engine: its file, how its tables are read, and the functions that raise where SQLite would go on."""
+import hashlib
 import os
 import re
 import sqlite3
@@ -200,7 +201,7 @@ def affinity_of(kind):
 
 
 def fingerprint_of(batches):
-    import hashlib
+    """The number of the rows, and a sum of 128 bits of what each row is hashed to, in whichever order they come."""
     count, total = 0, 0
     for rows in batches:
         for row in rows:

@@ -34,6 +34,7 @@ class Source:
 class Select:
     outer: object
     start: int = 0
+    stop: int = 0
     items: list = field(default_factory=list)
     sources: list = field(default_factory=list)
     clauses: list = field(default_factory=list)
@@ -53,6 +54,7 @@ class Scopes:
 
     def __init__(self, draft):
         self.draft, self.within, self.selects, self.bases, self.known = draft, {}, [], [], {}
+        self.queries = []
         self.top = self.query(0, None)[0]
 
     def query(self, at, outer):
@@ -64,6 +66,7 @@ class Scopes:
             if not self.draft.one_of(at, ("union", "intersect", "except")):
                 break
             at += 2 if self.draft.word(at + 1, "all") else 1
+        self.queries.append(found)
         while at < len(self.draft) and not self.draft.mark(at, ")"):
             at += 1
         return found, at
@@ -84,6 +87,7 @@ class Scopes:
             clause = self.draft.tokens[at].value.decode()
             first, at = at + 1, self.expression(at + 1, select, clause, ENDS, through=True)
             select.clauses.append((clause, first, at - 1, len(select.sources)))
+        select.stop = at - 1
         return select, at
 
     def sources(self, at, select):

@@ -16,13 +16,13 @@ def safe(text, tables):
     draft = Draft(text)
     scopes = Scopes(draft).with_columns(columns_of(tables))
     faulty = may_fault(draft)
-    refuse_copies(draft)
     names_alone(draft)
     by_bytes(draft)
     lateral_by_lists(draft, scopes)
     single_rows(draft)
     checked_arithmetic(draft)
     quantified(draft)
+    numbered_copies(draft, scopes)
     for at in range(len(draft)):
         if draft.word(at, "order", "by"):
             nulls_placed(draft, at)
@@ -30,10 +30,26 @@ def safe(text, tables):
     return Safe(read_tables(scopes, tables) + draft.text(), scopes.names(), faulty)
 
 
-def refuse_copies(draft):
-    for word in ("intersect", "except"):
-        if any(draft.word(at, word, "all") for at in range(len(draft))):
-            raise Unsayable(f"SQLite has no {word.upper()} ALL, and this query needs it")
+def numbered_copies(draft, scopes):
+    """INTERSECT ALL and EXCEPT ALL, by a number for each copy of a row: then no row stands twice."""
+    copy = quoted(draft.fresh("copy"))
+    for selects in scopes.queries:
+        for left, right in zip(selects, selects[1:]):
+            if not draft.one_of(left.stop + 1, ("intersect", "except")) or not draft.word(left.stop + 2, "all"):
+                continue
+            names = [[draft.name(last) for _, last in select.items] for select in (left, right)]
+            if len(selects) > 2 or any(len(set(it)) < len(it) for it in names):
+                raise Unsayable(f"SQLite has no {draft.said[left.stop + 1]} ALL, and this query can't be put otherwise")
+            (columns, front), (_, other) = (numbered(it, copy) for it in names)
+            draft.around(left.start, left.stop, f"SELECT {columns} FROM ({front}", ")")
+            draft.replace(left.stop + 2, "")
+            draft.around(right.start, right.stop, other, "))")
+
+
+def numbered(names, copy):
+    """The columns of these names, and what begins a query that numbers the copies of each row of the next parenthesis."""
+    columns = ", ".join(map(quoted, names))
+    return columns, f"SELECT *, ROW_NUMBER() OVER (PARTITION BY {columns}) AS {copy} FROM ("
 
 
 def names_alone(draft):
