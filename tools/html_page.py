@@ -5,6 +5,7 @@ import html
 import json
 import pathlib
 import re
+from dataclasses import dataclass
 
 import answers
 import places
@@ -231,16 +232,25 @@ def freshness(answer):
     return None
 
 
+@dataclass
+class Known:
+    """What is known of refusals: the manual's sentences, and what the program said that may help with the one of this run."""
+
+    sentences: dict
+    hints: list
+
+
 def refusal(script, line, known):
-    """The line of a refusal with its meaning, and the place that it names."""
+    """The line of a refusal with its meaning, the place that it names, and what may help."""
     text = line.decode(errors="replace").rstrip("\n")
-    told = refusals.sentence(text, known)
+    told = refusals.sentence(text, known.sentences)
     parts = [f"<p class=refusal><b>{shown(text)}</b>{': ' + shown(told) if told else ''}</p>\n"]
     offset = re.search(r" at (\d+)$", text)
     if offset and script is not None:
         row, column, content = scripts.place(script, int(offset[1]))
         mark = "".join(it if it == "\t" else " " for it in content[:column - 1]) + "^"
         parts.append(f"<p class=count>line {row}, column {column}</p><pre class=text>{shown(content)}\n<b class=place>{mark}</b></pre>\n")
+    parts += [f"<p class=hint>{shown(it)}</p>\n" for it in known.hints]
     return "".join(parts)
 
 
@@ -298,7 +308,7 @@ def checksum(text):
     return "'sha256-" + base64.b64encode(hashlib.sha256(text.encode()).digest()).decode() + "'"
 
 
-def page(name, script, told, known, renewing=""):
+def page(name, script, told, sentences, renewing=""):
     """The page; with a script that renews it, where it is served, which may ask its own server."""
     style, code = ((HERE / file).read_text() for file in ("page.css", "page.js"))
     runs = [code, renewing] if renewing else [code]
@@ -306,7 +316,7 @@ def page(name, script, told, known, renewing=""):
     policy += "; connect-src 'self'" if renewing else ""
     lines = [it for it in refusals.without_note(told.said).splitlines() if not it.startswith(b"perm: .. ")]
     said = "".join(f"<p class=note>{read(line)}</p>\n" for line in lines[:20])
-    lead = ENDED.get(told.status, "The program gave no answer.")
+    lead, known = ENDED.get(told.status, "The program gave no answer."), Known(sentences, refusals.hints(told.said))
     return (
         f'<!doctype html>\n<html lang=en>\n<head>\n<meta charset=utf-8>\n<meta http-equiv=Content-Security-Policy content="{policy}">\n'
         f'<meta name=viewport content="width=device-width, initial-scale=1">\n<title>{shown(name)}</title>\n<style>{style}</style>\n</head>\n<body>\n'

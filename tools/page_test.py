@@ -406,6 +406,24 @@ def one_large(window, path):
     expect(loaded < LOADED and took < OPENED, f"10^5 witnesses take {loaded:.1f} s, and {took:.1f} s to be opened")
 
 
+STAND_IN = """#!/bin/sh
+printf 'error E11 at 7\n'
+printf '%s:1:8: no column of this name (E11)\nSELECT a;\n       ^\nhint: names <that> are near: b\nhint: another\n' "$1" >&2
+exit 4
+"""
+
+
+def hinted(folder):
+    """What the program says that may help stands at the refusal, once, and not at the top; a stand-in for the program says it."""
+    stand_in, script = pathlib.Path(folder, "stand_in"), pathlib.Path(folder, "hinted.sql")
+    stand_in.write_text(STAND_IN)
+    stand_in.chmod(0o755)
+    script.write_text("SELECT a;\n")
+    page = subprocess.run([str(TOP / "page"), str(script)], capture_output=True, env={**os.environ, "PERM": str(stand_in)}).stdout.decode()
+    expect(page.count("names &lt;that&gt; are near: b") == 1 and page.count("<p class=hint>another</p>") == 1, "hints don't stand at the refusal")
+    expect("class=note" not in page.partition("<main>")[0], "a hint stands at the top")
+
+
 def main():
     words = argparse.ArgumentParser()
     words.add_argument("--pictures")
@@ -427,6 +445,11 @@ def main():
             if why:
                 print(f"page: {path.name}: {why}", file=sys.stderr)
                 failed = True
+        try:
+            hinted(folder)
+        except Failed as error:
+            print(f"page: {error}", file=sys.stderr)
+            failed = True
         print(f"page: {len(scripts_read) - 1} pages were read back", file=sys.stderr)
         if not browser.found():
             print("page: no Chromium is installed (apt-get install chromium), so no page was opened in it", file=sys.stderr)

@@ -1,8 +1,8 @@
 """What the manual says of each refusal."""
 import re
 
-# What the program says of a refusal at the end of the error stream: a sentence, and in a script a line and a mark under it.
-NOTE = re.compile(rb"^.*: .* \(E\d\d\)\n(?:.*\n[ \t]*\^\n)?\Z", re.M)
+# What the program says of a refusal at the end of the error stream: a sentence, in a script a line and a mark under it, and what may help.
+NOTE = re.compile(rb"^.*: .* \(E\d\d\)\n(?:.*\n[ \t]*\^\n)?((?:hint: .*\n)*)\Z", re.M)
 ROW = re.compile(r"^\| `error (E\d\d)( [^`]*)?` \| \d \| (.*) \|$", re.M)
 
 
@@ -23,3 +23,10 @@ def sentence(line, known):
 def without_note(said):
     """What the error stream says beside the program's note on a refusal."""
     return NOTE.sub(b"", said)
+
+
+def hints(said):
+    """What the program says on the error stream that may help."""
+    found = NOTE.search(said)
+    lines = found[1].decode(errors="replace").splitlines() if found else []
+    return [it.removeprefix("hint: ") for it in lines]
