@@ -13,6 +13,7 @@ pub mod Lost
 pub mod Nested
 pub mod Provenance
 pub mod Ready
+pub mod SameMeanings
 pub mod Sounder
 mod Stored
 pub mod StoredThen

@@ -5,7 +5,7 @@ use Rattle.std.specs.Cmp.Lexicographic.{same_text}
 use Rattle.std.specs.List.{ends_with, list_all}
 use Rattle.std.proofs.lemmas.List.{take-append-drop}
 use Rattle.statement_meaning.specs.explains.Explains.{Explains, MeansTheSame, NamesTables, is_plain_word, one_select, read_as}
-use Rattle.statement_meaning.proofs.explains.SameMeanings.{one_query}
+use Rattle.statement_meaning.proofs.SameMeanings.{one_query}
 use Rattle.bag_algebra.specs.declared.query.Answer.{Answer}
 use Rattle.sql_printer.specs.explained.Alone.{IsAlone}
 use Rattle.sql_printer.specs.explained.Reading.{IsPlainText, IsWholeText, NamesTablesText, OnlyQuery, PlainText, ReadAgain, SaidIn, SaidOf, explain_of}

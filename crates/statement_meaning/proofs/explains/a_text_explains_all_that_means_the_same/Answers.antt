@@ -1,5 +1,5 @@
 use Rattle.statement_meaning.specs.explains.Explains.{read_as}
-use Rattle.statement_meaning.proofs.explains.SameMeanings.{same-trans}
+use Rattle.statement_meaning.proofs.SameMeanings.{same-trans}
 use Rattle.statement_meaning.proofs.explains.a_text_explains_all_that_means_the_same.Goals as goal
 
 pub returns : goal.returns

@@ -1,6 +1,6 @@
 use Rattle.std.proofs.Common.{subst}
 use Rattle.statement_meaning.specs.explains.Explains.{MeansTheSame, read_as}
-use Rattle.statement_meaning.proofs.explains.SameMeanings.{same-sym, same-trans, one_query}
+use Rattle.statement_meaning.proofs.SameMeanings.{same-sym, same-trans, one_query}
 use Rattle.statement_meaning.proofs.explains.a_text_explains_one_meaning.Goals as goal
 
 pub returns : goal.returns
