@@ -1,3 +1,4 @@
+pub mod Added
 pub mod Fronts
 pub mod Guesses
 pub mod Pieces

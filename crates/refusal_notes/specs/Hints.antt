@@ -17,16 +17,23 @@ file_hint copied = cond (length copied == 0) [] (codes "hint: the file is " ++ m
 abbrev pub place_hint : ℕ → List ℕ → ℕ → List ℕ → List ℕ
 place_hint code script at copied = cond ((code == 40) || (code == 41)) (file_hint copied) (hint_line (script_hint code script at))
 
+abbrev pub count_line : ℕ → List ℕ
+count_line count = codes "hint: fields of this record: " ++ decimal count ++ codes "\n"
+
+-- how many fields a record has, and what its first one looks like
+abbrev pub count_hints : ℕ → List ℕ → List ℕ
+count_hints count first = count_line count ++ hint_line (separator_advice first)
+
 -- of a record of a file with another number of fields than is needed, where the file has the record
 abbrev pub width_hints : List ℕ → ℕ → List ℕ
-width_hints file row =
-    cond (field_count file row == 0) []
-    (codes "hint: fields of this record: " ++ decimal (field_count file row) ++ codes "\n" ++ hint_line (separator_advice (field_of file row 1)))
+width_hints file row = cond (field_count file row == 0) [] (count_hints (field_count file row) (field_of file row 1))
+
+abbrev pub piece_line : List ℕ → List ℕ
+piece_line field = codes "hint: the field is '" ++ map shown (behind_piece field) ++ codes "'\n"
 
 -- of a field that is no integer, in the record of a number: its beginning, and what it looks like
 abbrev pub field_hints : ℕ → List ℕ → List ℕ
-field_hints row field =
-    codes "hint: the field is '" ++ map shown (behind_piece field) ++ codes "'\n" ++ hint_line (field_advice row field)
+field_hints row field = piece_line field ++ hint_line (field_advice row field)
 
 -- where the file has the record
 abbrev pub integer_hints : List ℕ → ℕ → ℕ → List ℕ

@@ -1,7 +1,7 @@
 //! What a note advises, behind what it tells.
 ghost use Rattle.std.specs.Prelude.{◌≡◌, ◌++◌, OnOk, map};
-ghost use Rattle.refusal_notes.specs.Excerpts.{behind_piece, shown};
-ghost use Rattle.refusal_notes.specs.Hints.{field_hints, file_hint, hint_line, integer_hints, place_hint, width_hints};
+ghost use Rattle.refusal_notes.specs.Excerpts.{shown};
+ghost use Rattle.refusal_notes.specs.Hints.{count_hints, count_line, field_hints, file_hint, hint_line, integer_hints, piece_line, place_hint, width_hints};
 
 use crate::excerpt::{behind_piece, shown_text};
 use crate::notes::add_number;
@@ -50,9 +50,28 @@ fn add_file_hint(alloc: Global, note: &mut Bytes, copied: &[u8]) -> Result<(), N
     if copied.is_empty() {
         return Ok(());
     }
-    note.add(b"hint: the file is ")?;
-    note.add(shown_text(alloc, copied)?.as_slice())?;
-    note.add(b", as seen from where perm is called\n")
+    add_between(
+        alloc,
+        note,
+        b"hint: the file is ",
+        copied,
+        b", as seen from where perm is called\n",
+    )
+}
+
+/// Adds a text as it is shown, between two others.
+fn add_between(
+    alloc: Global,
+    note: &mut Bytes,
+    front: &[u8],
+    text: &[u8],
+    behind: &[u8],
+) -> Result<(), NoMemory>
+    ensures { OnOk result (note.new ≡ note.old ++ (front.now ++ map shown text.now ++ behind.now)) }
+{
+    note.add(front)?;
+    note.add(shown_text(alloc, text)?.as_slice())?;
+    note.add(behind)
 }
 
 /// Adds how many fields a record of a file has, and what it looks like.
@@ -68,14 +87,34 @@ pub(crate) fn add_width_hints(
     if count == 0 {
         return Ok(());
     }
-    note.add(b"hint: fields of this record: ")?;
-    add_number(note, count as u64)?;
-    note.add(b"\n")?;
-    add_hint(
+    add_count_hints(
         alloc,
         note,
-        separator_advice(field_of(alloc, file, row, 1)?.as_slice()),
+        count as u64,
+        field_of(alloc, file, row, 1)?.as_slice(),
     )
+}
+
+/// Adds how many fields a record has, and what its first one looks like.
+fn add_count_hints(
+    alloc: Global,
+    note: &mut Bytes,
+    count: u64,
+    first: &[u8],
+) -> Result<(), NoMemory>
+    ensures { OnOk result (note.new ≡ note.old ++ count_hints count first.now) }
+{
+    add_count(note, count)?;
+    add_hint(alloc, note, separator_advice(first))
+}
+
+/// Adds how many fields a record has.
+fn add_count(note: &mut Bytes, count: u64) -> Result<(), NoMemory>
+    ensures { OnOk result (note.new ≡ note.old ++ count_line count) }
+{
+    note.add(b"hint: fields of this record: ")?;
+    add_number(note, count)?;
+    note.add(b"\n")
 }
 
 /// Adds what a field of a file is, and what it looks like, where the file has its record.
@@ -103,16 +142,20 @@ pub(crate) fn add_integer_hints(
 fn add_field_hints(alloc: Global, note: &mut Bytes, row: u64, field: &[u8]) -> Result<(), NoMemory>
     ensures { OnOk result (note.new ≡ note.old ++ field_hints row field.now) }
 {
-    note.add(b"hint: the field is '")?;
     add_piece(alloc, note, field)?;
-    note.add(b"'\n")?;
     add_hint(alloc, note, field_advice(row, field))
 }
 
 /// Adds the beginning of a field as it is shown.
 fn add_piece(alloc: Global, note: &mut Bytes, field: &[u8]) -> Result<(), NoMemory>
-    ensures { OnOk result (note.new ≡ note.old ++ map shown (behind_piece field.now)) }
+    ensures { OnOk result (note.new ≡ note.old ++ piece_line field.now) }
 {
     let piece = behind_piece(alloc, field)?;
-    note.add(shown_text(alloc, piece.as_slice())?.as_slice())
+    add_between(
+        alloc,
+        note,
+        b"hint: the field is '",
+        piece.as_slice(),
+        b"'\n",
+    )
 }
