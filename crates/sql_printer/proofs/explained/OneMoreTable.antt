@@ -1,5 +1,5 @@
 -- A catalog that holds nothing but tables of another, and one more of them.
-use Rattle.std.proofs.Common.{◌≡◌, ◌⊎◌, inl, inr, ℕ, true, false, true≢false, not, ◌&&◌, List, [], Option, Some, None, is_some, refl, sym, ap, ◌∙◌}
+use Rattle.std.proofs.Common.{◌≡◌, ◌⊎◌, inl, inr, ℕ, true, false, true≢false, not, ◌&&◌, List, [], Option, Some, None, is_some, option_copied, Bor, refl, sym, ap, ◌∙◌}
 use Rattle.std.proofs.lemmas.Option.{same_Some}
 use Rattle.std.specs.Option.{option_map}
 use Rattle.perm_values.proofs.Steps.{none_is_some}
@@ -12,9 +12,9 @@ use Rattle.stored_provenance.proofs.SoundTables.{sound-created}
 use Rattle.stored_provenance.proofs.Soundness.{sound-empty}
 use Rattle.sql_printer.specs.explained.Alone.{IsAlone}
 
-pub none-found : (found : Option TableEntry) → is_some found ≡ false → found ≡ None
-none-found None e = refl
-none-found (Some table) e = absurd (true≢false e)
+pub none-copied : {T : Type 0} (held : Option (Bor T)) → is_some held ≡ false → option_copied held ≡ None
+none-copied None e = refl
+none-copied (Some entry) e = absurd (true≢false e)
 
 pub none-alone : (c : Contents) (next : ℕ) → IsAlone c (nothing_held next)
 none-alone c next = record {
