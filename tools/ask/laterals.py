@@ -5,18 +5,18 @@ COMPARISONS = ("=", "<>", "<", "<=", ">", ">=")
 AGGREGATES = ("count", "sum", "min", "max")
 
 
-def as_joins(draft, scopes):
-    """Turns each lateral query that is one into a join, and gives those that stay."""
-    left = []
+def parted(draft, scopes):
+    """The lateral queries that are joins, each with its SELECT and what `join` moves, and those that are none."""
+    joins, others = [], []
     for select in scopes.selects:
         for source in select.sources:
             if draft.word(source.first, "lateral"):
                 moved = conditions(draft, scopes, source)
                 if moved:
-                    join(draft, select, source, moved)
+                    joins.append((select, source, moved))
                 else:
-                    left.append(source)
-    return left
+                    others.append(source)
+    return joins, others
 
 
 def conditions(draft, scopes, source):
@@ -78,14 +78,13 @@ def join(draft, select, source, moved):
     for first, last, (left, right, operator), local in moved:
         sides = []
         for at in (left, right):
-            sides.append("".join(draft.said[at:at + 3]))
+            sides.append(draft.written(at, at + 2))
             if at in local:
                 column = quoted(f"{name}{len(written)}{len(sides)}")
                 draft.behind[end] += f", {sides[-1]} AS {column}"
                 sides[-1] = f"{quoted(source.name)}.{column}"
         written.append(f"{sides[0]} {operator} {sides[1]}")
-        for at in range(first, last + 1):
-            draft.replace(at, "")
+        draft.drop(first, last)
         draft.replace(first, "TRUE")
     draft.replace(source.first, "")
     condition = " AND ".join(written)

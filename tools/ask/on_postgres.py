@@ -19,6 +19,8 @@ AS_TEXT = ("date", "time", "timetz", "timestamp", "timestamptz", "uuid", "bool",
 SETTINGS = {
     "client_encoding": "UTF8", "standard_conforming_strings": "on", "DateStyle": "ISO, YMD", "TimeZone": "UTC",
     "cursor_tuple_fraction": "1",
+    # A text with provenance is wide: to compile it takes longer than to run it.
+    "jit": "off",
 }
 # A relation's columns with the types below their domains, and the collations of these.
 COLUMNS = """

@@ -1,5 +1,5 @@
 """Makes a printed text safe for PostgreSQL: a pass over its tokens. docs/DATABASES.md has the table of what it does."""
-from .laterals import as_joins
+from .laterals import join, parted
 from .printed import Draft, chains, quoted, steps
 from .safety import Safe, columns_of, may_fault, order_by_all, read_tables
 from .scopes import INTEGER, TEXT, Scopes
@@ -10,7 +10,8 @@ def safe(text, tables, bytewise=True):
     draft = Draft(text)
     scopes = Scopes(draft).with_columns(columns_of(tables))
     faulty = may_fault(draft)
-    as_joins(draft, scopes)
+    for lateral in parted(draft, scopes)[0]:
+        join(draft, *lateral)
     keep_backslashes(draft)
     if not bytewise:
         collate_literals(draft)

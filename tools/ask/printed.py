@@ -61,6 +61,15 @@ class Draft:
     def replace(self, at, text):
         self.said[at] = text
 
+    def written(self, first, last):
+        """These tokens with what was put around them."""
+        return "".join(part for at in range(first, last + 1) for part in (self.front[at], self.said[at], self.behind[at]))
+
+    def drop(self, first, last):
+        """Takes these tokens out, with what was put around them."""
+        for at in range(first, last + 1):
+            self.front[at] = self.said[at] = self.behind[at] = ""
+
     def last_of(self, first):
         """The last token of the primary that begins there."""
         if self.mark(first, "-"):

@@ -3,7 +3,7 @@
 The functions perm_plus .. perm_several are the connection's own (on_sqlite.py); they raise where SQLite would go on with NULL, with a
 float or with the first of several rows.
 """
-from .laterals import as_joins
+from .laterals import join, parted
 from .printed import Draft, chains, quoted, steps
 from .safety import Safe, Unsayable, columns_of, may_fault, order_by_all, read_tables, several, sort_keys
 from .scopes import Scopes
@@ -82,7 +82,8 @@ def lateral_by_lists(draft, scopes):
     """A lateral query that is no join as the list of its rows, which SQLite's json_each takes apart again beside each row on its left."""
     sources = [it for select in scopes.selects for it in select.sources]
     columns, rows = {}, draft.fresh("rows")
-    for source in as_joins(draft, scopes):
+    joins, others = parted(draft, scopes)
+    for source in others:
         if sum(it.name == source.name for it in sources) > 1 or not scopes.are_told():
             raise Unsayable("SQLite has no LATERAL, and this query, in which names are printed as numbers, can't be put otherwise")
         columns[source.name] = [draft.name(last) for _, last in source.table[0].items]
@@ -96,6 +97,8 @@ def lateral_by_lists(draft, scopes):
             place = columns[draft.name(at)].index(column)
             draft.replace(at + 2, '"value"')
             draft.around(at, at + 2, "json_extract(", f", '$[{place}]')" + (f" AS {quoted(column)}" if at in items else ""))
+    for lateral in joins:
+        join(draft, *lateral)
 
 
 def single_rows(draft):
