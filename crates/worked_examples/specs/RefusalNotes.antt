@@ -3,7 +3,10 @@
 --     <tab>FROM é, r;      (é: 195 169)
 use Rattle.std.specs.Prelude.{◌≡◌, ℕ, List, [], ◌∷◌, ◌++◌, map, refl, codes}
 use Rattle.std.specs.Fmt.{digits}
+use Rattle.csv.specs.Machine.{next_record}
+use Rattle.csv.specs.Reading.{records_from, strip_bom}
 use Rattle.csv_tables.specs.declared.data_error.DataError.TheVariants.{Width, NotText}
+use Rattle.refusal_hints.specs.Tables.{name_texts}
 use Rattle.refusal_notes.specs.declared.cause.Cause.TheVariants.{At, NoScript, Data, Unread}
 use Rattle.refusal_notes.specs.Excerpts.{excerpt}
 use Rattle.refusal_notes.specs.Notes.{note_of}
@@ -18,12 +21,12 @@ abbrev script : List ℕ
 script = codes "SELECT a\n" ++ line ++ codes "\n"
 
 unknown-column : note_of (At 11 7) name script [] ≡ codes "report.sql:1:8: no column of this name (E11)\nSELECT a\n       ^\n"
-unfolding digits
+unfolding digits name_texts
 unknown-column = refl
 
 -- a tab stands under the tab, and one blank under the two bytes
 unknown-table : note_of (At 10 19) name script [] ≡ codes "report.sql:2:10: no table or view of this name (E10)\n" ++ line ++ codes "\n" ++ 9 ∷ codes "        ^\n"
-unfolding digits
+unfolding digits name_texts
 unknown-table = refl
 
 -- a number that no cause has
@@ -40,7 +43,7 @@ unfolding digits
 unread-file = refl
 
 wide-record : note_of (Data (Width 12)) (codes "a.csv") [] [] ≡ codes "a.csv: record 12: this record has another number of fields than the table has columns (E42)\n"
-unfolding digits
+unfolding digits records_from strip_bom next_record
 wide-record = refl
 
 binary-field : note_of (Data (NotText 3 2)) (codes "a.csv") [] [] ≡ codes "a.csv: record 3, field 2: this field isn't UTF-8 (E44)\nhint: save the file as UTF-8\n"
