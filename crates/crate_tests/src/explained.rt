@@ -35,11 +35,12 @@ const QUERIES: [&str; 18] = [
     "SELECT (SELECT a FROM \"s \"\"\") FROM r;",
 ];
 
-fn answered(alloc: Global, parts: &[&[u8]]) -> Result<Ended, NoMemory> {
+/// What a script of these parts, one behind the other, ends with.
+fn answered(alloc: Global, tables: &[u8], more: &[u8], text: &[u8]) -> Result<Ended, NoMemory> {
     let mut script = Bytes::new(alloc);
-    for part in parts {
-        script.add(part)?;
-    }
+    script.add(tables)?;
+    script.add(more)?;
+    script.add(text)?;
     let given = Given {
         words: &["s"],
         script: script.as_slice(),
@@ -53,7 +54,7 @@ fn answered(alloc: Global, parts: &[&[u8]]) -> Result<Ended, NoMemory> {
 
 /// The text that explains the query over tables that are made and filled by these statements, which tell so many bytes.
 fn explained(alloc: Global, tables: &[u8], told: usize, query: &str) -> Result<Bytes, NoMemory> {
-    let ended = answered(alloc, &[tables, b"EXPLAIN REWRITE ", query.as_bytes()])?;
+    let ended = answered(alloc, tables, b"EXPLAIN REWRITE ", query.as_bytes())?;
     let mut text = Bytes::new(alloc);
     text.add(ended.out.written().get(told..).unwrap_or(b""))?;
     Ok(text)
@@ -65,8 +66,8 @@ fn a_text_answers_as_its_query(rt: HostRuntime) -> Result<(), Fail> {
     for query in QUERIES {
         let text = explained(alloc, TABLES, TOLD.len(), query)?;
         for more in [b"".as_slice(), MORE] {
-            let asked = answered(alloc, &[TABLES, more, query.as_bytes()])?;
-            let again = answered(alloc, &[TABLES, more, text.as_slice()])?;
+            let asked = answered(alloc, TABLES, more, query.as_bytes())?;
+            let again = answered(alloc, TABLES, more, text.as_slice())?;
             assert_eq!(rt; again.status, asked.status, "{query}");
             assert_eq!(rt; again.out.written(), asked.out.written(), "{query}");
         }
@@ -106,15 +107,27 @@ const ANSWERED: [(&str, &str, &str, &str, &str); 4] = [
     ),
 ];
 
+/// What is answered behind the tables by the statements that come before the text, and by the text that explains the query.
+fn rest_of(
+    alloc: Global,
+    tables: &str,
+    told: usize,
+    query: &str,
+    more: &str,
+) -> Result<Bytes, NoMemory> {
+    let text = explained(alloc, tables.as_bytes(), told, query)?;
+    let ended = answered(alloc, tables.as_bytes(), more.as_bytes(), text.as_slice())?;
+    let mut rest = Bytes::new(alloc);
+    rest.add(ended.out.written().get(told..).unwrap_or(b""))?;
+    Ok(rest)
+}
+
 #[test]
 fn a_text_asks_for_the_rows_as_they_are(rt: HostRuntime) -> Result<(), Fail> {
     let alloc = rt.alloc();
-    for (tables, told, query, more, text) in ANSWERED {
-        let explained = explained(alloc, tables.as_bytes(), told.len(), query)?;
-        let again = [tables.as_bytes(), more.as_bytes(), explained.as_slice()];
-        let ended = answered(alloc, &again)?;
-        let written = ended.out.written();
-        assert_eq!(rt; written.get(told.len()..), Some(text.as_bytes()), "{query}");
+    for (tables, told, query, more, text) in &ANSWERED {
+        let rest = rest_of(alloc, tables, told.len(), query, more)?;
+        assert_eq!(rt; rest.as_slice(), text.as_bytes(), "{query}");
     }
     Ok(())
 }

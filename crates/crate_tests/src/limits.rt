@@ -20,8 +20,8 @@ fn answered(alloc: Global, script: &[u8]) -> Result<Ended, NoMemory> {
 /// A table, and a query with so many items in FROM.
 fn items(alloc: Global, count: u64) -> Result<Bytes, Fail> {
     let mut script = Bytes::new(alloc);
-    script.add(b"CREATE TABLE r (a INTEGER); SELECT 1 FROM r x1")?;
-    for number in 2..count + 1 {
+    script.add(b"CREATE TABLE r (a INTEGER); SELECT 1 FROM r x0")?;
+    for number in 1..count {
         let item = format!(in alloc; ", r x{number}")?;
         script.add(item.as_bytes())?;
     }
