@@ -60,7 +60,7 @@ CHAINS = [
     ("joins with one name", chain(TABLE, "SELECT 1 FROM r", " CROSS JOIN r"), 4),
     ("comma items", chain(TABLE, "SELECT 1 FROM r x", ",r y%d"), 4),
     ("comma items of PROVENANCE", chain(TABLE, "SELECT PROVENANCE 1 FROM r x", ",r y%d"), 4),
-    ("joins on names", chain(TABLE, "SELECT 1 FROM r x", " JOIN r y%d ON y%d.a=x.a"), 4),
+    ("joins on names", chain("", "SELECT 1 FROM (SELECT 1 AS c) x", " JOIN (SELECT 1 AS c%d) y%d ON c%d=c"), 4),
     *[(f"{kind.lower()} lateral", chain(TABLE, "SELECT 1 FROM r x", f" {kind} JOIN LATERAL(SELECT 1)y%d{back}"), 4)
       for kind, back in (("CROSS", ""), ("LEFT", " ON TRUE"))],
     ("comma subqueries", chain("", "SELECT 1 FROM (SELECT 1) x", ",(SELECT 1) y%d"), 4),
