@@ -295,12 +295,23 @@ def csv_of(window, details):
     return list(csv.reader(io.StringIO(window.value(f"csv(stateOf({details}))").removeprefix("\ufeff"), newline="")))
 
 
+def becomes(window, test, seconds=10):
+    """Whether the test is true soon: what is opened is put into the document by an event behind the click."""
+    ends = time.monotonic() + seconds
+    while not window.value(test):
+        if time.monotonic() > ends:
+            return False
+        time.sleep(0.02)
+    return True
+
+
 def found(window, path):
     """Equal rows, sums, a filter, a figure's address, and its witnesses as CSV."""
     window.open(path)
     expect(not window.complaints(), f"the browser complains: {window.complaints()}")
     expect(texts(window, "summary") == ["from 3 witnesses: all 3 rows (with equal ones 4) of r"], f"summaries say {texts(window, 'summary')}")
     window.value("document.querySelector('details').open = true")
+    expect(becomes(window, "document.querySelectorAll('td.w.t').length == 3"), "the witnesses aren't in the document")
     expect(texts(window, "td.w.t") == ["", "2 times", ""] , f"equal rows are told by {texts(window, 'td.w.t')}")
     sums = texts(window, "tfoot .n")
     window.value("showSources(stateOf(document.querySelector('details')))")
@@ -378,6 +389,7 @@ def many(window, path):
     set_filter(window, ".tools .filter", "number", "is", "9999")
     expect(window.value(rows) == 1 and texts(window, ".tools output") == ["1 of 10,000 rows"], f"the filter leaves {window.value(rows)} rows")
     window.value("document.querySelector('details').open = true")
+    expect(becomes(window, "document.querySelector('details[open] tr[data-k]') != null"), "no witness is in the document")
     window.click("details[open] tr[data-k]")
     expect(window.value("document.querySelectorAll('.same').length") == 2, "the row isn't marked in both places")
     window.open(path + "#s5r9001")
@@ -394,8 +406,8 @@ def one_large(window, path):
     begun = time.monotonic()
     window.click("summary")
     expect(window.value("document.querySelector('.sources').offsetHeight > 0"), "a click opens no witnesses")
+    expect(becomes(window, "document.querySelectorAll('.source tbody tr').length == 200"), "not the first 200 witnesses are in the document")
     took = time.monotonic() - begun
-    expect(window.value("document.querySelectorAll('.source tbody tr').length") == 200, "not the first 200 witnesses are in the document")
     total = texts(window, "tr.row td")[0]
     expect(texts(window, "tfoot .n")[2] == f"sum {total}", f"the lines make {texts(window, 'tfoot .n')}, not {total}")
     set_filter(window, "details .filter", "ledger: account", "is", "8")
