@@ -15,7 +15,7 @@ import scripts
 LONGEST_SCRIPT = 1 << 20
 FIELD = re.compile(rb'"((?:[^"]|"")*)"|([^,\n"]*)')
 COUNT = re.compile(rb"\((\d+) rows\)\n")
-REFUSAL = re.compile(rb"error [DE](\d\d)(?: at (\d+)| [a-z0-9 ]+)?\n\Z")
+REFUSAL = re.compile(rb"error [AE](\d\d)(?: at (\d+)| [a-z0-9 ]+)?\n\Z")
 
 
 TOP = pathlib.Path(__file__).resolve().parent.parent

@@ -183,8 +183,8 @@ class Scripts(unittest.TestCase):
         for text, line, status in (
             ("SELECT a FROM WHERE", "error E05 at 14", 3), ("SELECT 1;\nSELECT nosuch FROM debtors", "error E11 at 17", 4),
             ("SELECT 1 # 2", "error E02 at 9", 3), ("SELECT 1 FROM nosuch", "error E10 at 14", 4), ("SELECT (1", "error E05 at 9", 3),
-            ("DELETE FROM lines", "error D01 at 0", 4), ("SELECT 1; INSERT INTO lines VALUES (1)", "error D01 at 10", 4),
-            ("CREATE TABLE z (a INTEGER)", "error D01 at 0", 4), ("DROP TABLE lines", "error D01 at 0", 4), ("COPY lines FROM 'x'", "error D01 at 0", 4),
+            ("DELETE FROM lines", "error A01 at 0", 4), ("SELECT 1; INSERT INTO lines VALUES (1)", "error A01 at 10", 4),
+            ("CREATE TABLE z (a INTEGER)", "error A01 at 0", 4), ("DROP TABLE lines", "error A01 at 0", 4), ("COPY lines FROM 'x'", "error A01 at 0", 4),
             ("SELECT 1 / (id - 1) AS x FROM debtors", "error E30 at 0", 5), ("SELECT 9223372036854775807 + id AS x FROM debtors", "error E31 at 0", 5),
             ("SELECT (SELECT id FROM debtors) AS x", "error E32 at 0", 5), ("SELECT SUM(9223372036854775807 - id) AS x FROM debtors", "error E31 at 0", 5),
         ):
@@ -397,10 +397,10 @@ class OnPostgres(Scripts):
         self.assertEqual(asked(reader, "SELECT PROVENANCE name FROM debtors WHERE id = 2;")[:2],
                          (0, '"name","prov_debtors_id","prov_debtors_name","prov_debtors_town"\n"Bob",2,"Bob","Graz"\n(1 rows)\n'))
         status, given, said = asked(reader, "SELECT COUNT(*) FROM lines;")
-        self.assertEqual((status, given), (10, "error D04 at 0\n"))
-        self.assertIn("PostgreSQL refuses this statement: permission denied for table lines (D04)", said)
+        self.assertEqual((status, given), (10, "error A04 at 0\n"))
+        self.assertIn("PostgreSQL refuses this statement: permission denied for table lines (A04)", said)
         status, given, said = asked(reader, "CREATE TABLE x AS SELECT id FROM debtors;")
-        self.assertEqual((status, given), (10, "error D04 at 0\n"))
+        self.assertEqual((status, given), (10, "error A04 at 0\n"))
         self.assertIn("permission denied", said)
 
     def test_a_server_that_isnt_there(self):

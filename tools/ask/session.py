@@ -117,8 +117,8 @@ class Session:
 
     def refuse_writing(self, statement):
         words = " ".join(it.value.decode(errors="replace").upper() for it in statement.tokens[:2 if statement.tokens[0].value in (b"create", b"drop", b"delete", b"insert") else 1])
-        raise Ended(f"error D01 at {statement.start}", statement.start,
-                    f"{words} would write to the database, and ./ask writes to none of its tables (D01)", RULE)
+        raise Ended(f"error A01 at {statement.start}", statement.start,
+                    f"{words} would write to the database, and ./ask writes to none of its tables (A01)", RULE)
 
     # One statement
 
@@ -137,7 +137,7 @@ class Session:
         try:
             safe = self.safe(text, start)
             if len(safe.names) != len(step.kinds):
-                raise Ended(f"error D02 at {start}", start, "the kinds of the answer's columns can't be told (D02)", RULE)
+                raise Ended(f"error A02 at {start}", start, "the kinds of the answer's columns can't be told (A02)", RULE)
             return told.answer(safe.names, step.kinds, self.engine.rows(safe.text))
         except Failure as failure:
             raise self.ended(failure, start) from failure
@@ -147,12 +147,12 @@ class Session:
         try:
             safe = self.engine.safe(text, self.tables)
         except Unsayable as error:
-            raise Ended(f"error D02 at {start}", start, f"{error} (D02)", RULE) from error
+            raise Ended(f"error A02 at {start}", start, f"{error} (A02)", RULE) from error
         for name in dict.fromkeys(Scopes(Draft(text)).bases):
             self.note_table(name)
             wrong = None if self.options.trusted else self.engine.wrong_column(self.tables[name])
             if wrong:
-                raise Ended(f"error D03 at {start}", start, f"column {wrong} of table {name} holds a value that isn't of its type (D03)", RULE)
+                raise Ended(f"error A03 at {start}", start, f"column {wrong} of table {name} holds a value that isn't of its type (A03)", RULE)
         if safe.faulty:
             self.lax.append(scripts.place(self.script, start)[0])
         return safe
@@ -182,7 +182,7 @@ class Session:
     def ended(self, failure, start):
         if failure.fault:
             return Ended(f"error E{failure.fault} at {start}", start, f"{FAULTS[failure.fault]}, {self.engine.name} says: {failure} (E{failure.fault})", FAULT)
-        return Ended(f"error D04 at {start}", start, f"{self.engine.name} refuses this statement: {failure} (D04)", ENGINE)
+        return Ended(f"error A04 at {start}", start, f"{self.engine.name} refuses this statement: {failure} (A04)", ENGINE)
 
     def say_lax(self):
         if self.lax:
