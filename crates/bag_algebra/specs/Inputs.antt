@@ -1,5 +1,5 @@
 -- The children of the topmost node of a query: its inputs and its sublinks.
-use Rattle.std.specs.Prelude.{◌≡◌, List, [], ◌∷◌}
+use Rattle.std.specs.Prelude.{◌≡◌, List, [], ◌∷◌, Option, None, Some}
 use Rattle.bag_algebra.specs.built.Openings.{row_of_subs}
 use Rattle.bag_algebra.specs.built.Patterns.{BaseOf, FilterOf, ProjectOf, JoinOf, ApplyOf, UnionOf, IntersectOf, ExceptOf, DistinctOf, AggregateOf, LimitOf, ProvOf}
 use Rattle.bag_algebra.specs.declared.children.Inputs.{Inputs}
@@ -30,6 +30,11 @@ inputs_of (DistinctOf input) = input ∷ []
 inputs_of (AggregateOf input groups aggregates) = input ∷ []
 inputs_of (LimitOf input keys count) = input ∷ []
 inputs_of (ProvOf input) = input ∷ []
+
+-- the first of them, where there is one
+abbrev pub first_of : List Query → Option Query
+first_of [] = None
+first_of (input ∷ rest) = Some input
 
 -- the sublinks in the node's expressions, in the order of their numbers
 abbrev pub sublinks_of : Query → List Sublink

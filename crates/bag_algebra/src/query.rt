@@ -255,7 +255,8 @@ impl Drop for Query {
 impl Query {
     /// The first input of the topmost node, if it has one. All else of it is let go. It takes no memory.
     pub fn into_first_input(self) -> Option<Query>
-        ensures { IfSome result (λ input. size_of input < size_of self) }
+        ensures first { result ≡ first_of (inputs_of self) }
+        ensures smaller { IfSome result (λ input. size_of input < size_of self) }
     {
         match self {
             Query::Table { .. } => None,

@@ -23,7 +23,6 @@ pub struct ExprTree {
 }
 
 /// What an expression is made of.
-#[derive(Drop)]
 #[cycle(tree)]
 pub enum ExprBody {
     Null,
@@ -119,6 +118,108 @@ pub enum ExprBody {
     Exists(Boxed<QueryTree>),
     /// A query in parentheses as a value.
     Scalar(Boxed<QueryTree>),
+}
+
+impl Drop for ExprBody {
+    #[cycle(tree)]
+    fn drop(self) {
+        match self {
+            ExprBody::Null => {}
+            ExprBody::NullOf(_) => {}
+            ExprBody::Integer(_) => {}
+            ExprBody::Text(_) => {}
+            ExprBody::Truth(_) => {}
+            ExprBody::Column(_) => {}
+            ExprBody::Paren(part) => drop(part),
+            ExprBody::Nots { count: _, part } => drop(part),
+            ExprBody::Signs { count: _, part } => drop(part),
+            ExprBody::Logic { op: _, parts } => drop(parts),
+            ExprBody::Chain { first, steps } => {
+                drop(first);
+                drop(steps);
+            }
+            ExprBody::Compared {
+                op: _,
+                first,
+                second,
+            } => {
+                drop(first);
+                drop(second);
+            }
+            ExprBody::Like {
+                negated: _,
+                text,
+                pattern,
+            } => {
+                drop(text);
+                drop(pattern);
+            }
+            ExprBody::Between {
+                negated: _,
+                part,
+                low,
+                high,
+            } => {
+                drop(part);
+                drop(low);
+                drop(high);
+            }
+            ExprBody::InList {
+                negated: _,
+                part,
+                list,
+            } => {
+                drop(part);
+                drop(list);
+            }
+            ExprBody::InQuery {
+                negated: _,
+                part,
+                query,
+            } => {
+                drop(part);
+                drop(query);
+            }
+            ExprBody::Quantified {
+                every: _,
+                op: _,
+                part,
+                query,
+            } => {
+                drop(part);
+                drop(query);
+            }
+            ExprBody::IsNull { negated: _, part } => drop(part),
+            ExprBody::IsTruth {
+                negated: _,
+                truth: _,
+                part,
+            } => drop(part),
+            ExprBody::IsDistinct {
+                negated: _,
+                first,
+                second,
+            } => {
+                drop(first);
+                drop(second);
+            }
+            ExprBody::Case { arms, otherwise } => {
+                drop(arms);
+                drop(otherwise);
+            }
+            ExprBody::Coalesce(parts) => drop(parts),
+            ExprBody::NullIf { first, second } => {
+                drop(first);
+                drop(second);
+            }
+            ExprBody::Aggregate {
+                function: _,
+                argument,
+            } => drop(argument),
+            ExprBody::Exists(query) => drop(query),
+            ExprBody::Scalar(query) => drop(query),
+        }
+    }
 }
 
 /// One step of a chain: the operation and its right operand.
