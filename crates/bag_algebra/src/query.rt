@@ -1,4 +1,5 @@
 ghost use Rattle.std.specs.Prelude.{◌≡◌, ◌<◌, List as ItemsOf, IfOk, IfErr, IfSome};
+ghost use Rattle.bag_algebra.specs.Inputs.{first_of, inputs_of};
 ghost use Rattle.bag_algebra.specs.Measures.{size_of};
 ghost use Rattle.bag_algebra.specs.declared.expr.Expr.{Expr};
 ghost use Rattle.bag_algebra.specs.declared.expr.Item.{Item};
