@@ -81,11 +81,16 @@ def declarations(text):
         yield name, said
 
 
+def is_named(name):
+    """Whether a name is one that others would cite: no example, and written in one piece."""
+    return not name.startswith("example-") and "◌" not in name
+
+
 def uncited():
     """The lemmas and definitions that no other text of the crates names, by crate.
 
-    What the compiler takes by the place where it stands, the answer to a function and what a loop keeps, is no lemma. Worked examples
-    are named nowhere else, and mixfix names are written apart."""
+    What the compiler takes by the place where it stands, the answer to a function and what a loop keeps, is no lemma, and neither
+    is a worked example."""
     said, found = collections.Counter(), []
     for path in sorted(TOP.glob("crates/*/s*/**/*")) + sorted(TOP.glob("crates/*/proofs/**/*.antt")):
         if path.suffix in (".rt", ".antt"):
@@ -93,7 +98,7 @@ def uncited():
             said.update(NAME.findall(text))
             by_place = path.name in ("Answers.antt", "Invariants.antt") or any("+" in part for part in path.parts)
             if path.suffix == ".antt" and not by_place and "worked_examples" not in path.parts:
-                found += [(path.relative_to(TOP).parts[1], name, own) for name, own in declarations(text) if "◌" not in name]
+                found += [(path.relative_to(TOP).parts[1], name, own) for name, own in declarations(text) if is_named(name)]
     crates = {}
     for crate, name, own in found:
         if said[name] <= own[name]:
