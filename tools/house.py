@@ -19,7 +19,7 @@ TOP = pathlib.Path(__file__).resolve().parent.parent
 CELL, WORDS, CHOICE = 120, 35, 80
 # The pages that people read first, and those that were mended since; a further page is put here once it keeps to it.
 PAGES = ("README.md", "CONTRIBUTING.md", "docs/TOUR.md", "docs/START.md", "docs/DATABASES.md", "docs/CSV.md", "docs/PAGE.md",
-         "docs/DEFINITIONS.md", "docs/ENGINES.md", "docs/WRONG_BODIES.md")
+         "docs/DEFINITIONS.md", "docs/MAP.md", "docs/ENGINES.md", "docs/WRONG_BODIES.md")
 BLOCK = re.compile(r"^```.*\n(?:.*\n)*?```$", re.M)
 LINK = re.compile(r"!?\[([^\]]*)\]\([^)]*\)")
 ITEM = re.compile(r"\n(?= *(?:[-*]|\d+\.) )|\n\s*\n")
