@@ -1,11 +1,12 @@
 #!/usr/bin/env python3
-"""Rules of the house that can be read off the texts: house.py. The status is 1 where one of the first two is broken.
+"""Rules of the house that can be read off the texts: house.py. The status is 1 where one of the first three is broken.
 
 1. A cell of a table, of README.md and of the pages in docs/, has at most 120 characters; the target of a link doesn't count.
 2. A sentence of the pages in PAGES has at most 35 words. A text between backquotes counts as one. Items of a list that end
    with a semicolon are sentences of their own. The other pages of docs/ are counted, and not held to it yet.
-3. A lemma or a definition is cited: its name stands a second time in some file of the crates. What is named once alone is
-   listed, and doesn't change the status: an instance or an example is named nowhere else.
+3. A paragraph of docs/DECISIONS.md, or an item of a list there, has at most 80 words.
+4. A lemma or a definition is cited: its name stands in some text of the crates beside its own declaration. Those that nothing
+   cites are counted, and listed with --list; they don't change the status.
 
 Who calls a function that may answer want of memory `uncalled.py` finds.
 """
@@ -15,10 +16,10 @@ import re
 import sys
 
 TOP = pathlib.Path(__file__).resolve().parent.parent
-CELL, WORDS = 120, 35
+CELL, WORDS, CHOICE = 120, 35, 80
 # The pages that people read first, and those that were mended since; a further page is put here once it keeps to it.
 PAGES = ("README.md", "CONTRIBUTING.md", "docs/TOUR.md", "docs/START.md", "docs/DATABASES.md", "docs/CSV.md", "docs/PAGE.md",
-         "docs/ENGINES.md", "docs/WRONG_BODIES.md")
+         "docs/DEFINITIONS.md", "docs/MAP.md", "docs/ENGINES.md", "docs/WRONG_BODIES.md")
 BLOCK = re.compile(r"^```.*\n(?:.*\n)*?```$", re.M)
 LINK = re.compile(r"!?\[([^\]]*)\]\([^)]*\)")
 ITEM = re.compile(r"\n(?= *(?:[-*]|\d+\.) )|\n\s*\n")
@@ -45,8 +46,8 @@ def wide_cells(text):
 
 
 def sentences(text):
-    """The sentences of a page, its tables and headings aside."""
-    lines = ["" if line.startswith(("|", "#")) else line for line in without_blocks(text).splitlines()]
+    """The sentences of a page, its tables, headings and quotations aside."""
+    lines = ["" if line.startswith(("|", "#", ">")) else line for line in without_blocks(text).splitlines()]
     for part in ITEM.split("\n".join(lines)):
         words = re.sub(r"`[^`]*`", "it", LINK.sub(r"\1", " ".join(part.split())))
         yield from filter(None, ENDS.split(re.sub(r"^(?:[-*]|\d+\.) ", "", words)))
@@ -54,6 +55,15 @@ def sentences(text):
 
 def long_sentences(text):
     return [sentence for sentence in sentences(text) if len(sentence.split()) > WORDS]
+
+
+def long_choices(text):
+    """The line and the number of words of each paragraph that is too long, tables aside."""
+    at = 1
+    for part in re.split(r"(\n\s*\n|\n(?=- ))", without_blocks(text)):
+        if len(part.split()) > CHOICE and not part.lstrip().startswith("|"):
+            yield at, len(part.split())
+        at += part.count("\n")
 
 
 def declarations(text):
@@ -71,11 +81,16 @@ def declarations(text):
         yield name, said
 
 
+def is_named(name):
+    """Whether a name is one that others would cite: no example, and written in one piece."""
+    return not name.startswith("example-") and "◌" not in name
+
+
 def uncited():
     """The lemmas and definitions that no other text of the crates names, by crate.
 
-    What the compiler takes by the place where it stands, the answer to a function and what a loop keeps, is no lemma. Worked examples
-    are named nowhere else, and mixfix names are written apart."""
+    What the compiler takes by the place where it stands, the answer to a function and what a loop keeps, is no lemma, and neither
+    is a worked example."""
     said, found = collections.Counter(), []
     for path in sorted(TOP.glob("crates/*/s*/**/*")) + sorted(TOP.glob("crates/*/proofs/**/*.antt")):
         if path.suffix in (".rt", ".antt"):
@@ -83,7 +98,7 @@ def uncited():
             said.update(NAME.findall(text))
             by_place = path.name in ("Answers.antt", "Invariants.antt") or any("+" in part for part in path.parts)
             if path.suffix == ".antt" and not by_place and "worked_examples" not in path.parts:
-                found += [(path.relative_to(TOP).parts[1], name, own) for name, own in declarations(text) if "◌" not in name]
+                found += [(path.relative_to(TOP).parts[1], name, own) for name, own in declarations(text) if is_named(name)]
     crates = {}
     for crate, name, own in found:
         if said[name] <= own[name]:
@@ -96,6 +111,8 @@ def main():
     for page in [TOP / "README.md", TOP / "CONTRIBUTING.md", *sorted((TOP / "docs").glob("*.md"))]:
         name, text = str(page.relative_to(TOP)), page.read_text()
         reasons = [f"{number}: a cell of {length} characters, more than {CELL}" for number, length in wide_cells(text)]
+        if page.name == "DECISIONS.md":
+            reasons += [f"{number}: a paragraph of {words} words, more than {CHOICE}" for number, words in long_choices(text)]
         found = long_sentences(text)
         if name in PAGES:
             reasons += [f" a sentence of {len(it.split())} words, more than {WORDS}: {it[:60]} .." for it in found]
