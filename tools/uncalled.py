@@ -1,5 +1,5 @@
 #!/usr/bin/env python3
-"""uncalled.py: names each public function that may answer want of memory and that no program and no test comes to.
+"""uncalled.py: names each public function that no program and no test comes to; the status is 1 where one may answer want of memory.
 
 Contracts let such a function answer want of memory and nothing else, so somebody has to call it and look at what it gives. Calls are
 found by name: a free function's by what the file declares and imports, a method's by its name, an associated function's by its type's
@@ -232,7 +232,7 @@ class Sources:
     def uncalled(self):
         programs = {file.relative_to(TOP / "crates").parts[0] for file in TOP.glob("crates/*/src/main.rt")}
         # what `?`, operators and formatting call isn't written as a call
-        silent = {"From", "Drop", "Display", "Debug", "PartialEq", "Model", "Hash", "Iterator"}
+        silent = {"From", "Drop", "Display", "Debug", "PartialEq", "PartialOrd", "Model", "Hash", "Iterator"}
         left = [f for f in self.functions if f.is_test or f.trait in silent or f.name == "main" and f.crate in programs]
         reached = set(left)
         while left:
@@ -240,18 +240,32 @@ class Sources:
                 if function not in reached:
                     reached.add(function)
                     left.append(function)
-        return [f for f in self.functions if f.public and self.may_lack(f) and f not in reached]
+        return [f for f in self.functions if f.public and f not in reached]
+
+    @staticmethod
+    def gives_nothing(function):
+        """whether it is a law, whose contract alone counts: who answers nothing and takes nothing"""
+        return not function.result and not function.has_self
+
+
+def named(function):
+    owner = f"{function.owner}::" if function.owner else ""
+    return f"{function.file.relative_to(TOP)}: {owner}{function.name}"
 
 
 def main():
     sources = Sources()
     found = sources.uncalled()
-    for function in found:
-        owner = f"{function.owner}::" if function.owner else ""
-        print(f"{function.file.relative_to(TOP)}: {owner}{function.name}")
+    lacking = [f for f in found if sources.may_lack(f)]
+    for function in lacking:
+        print(named(function))
     asked = sum(1 for f in sources.functions if f.public and sources.may_lack(f))
-    print(f"uncalled.py: of {asked} public functions that may answer want of memory {len(found)} aren't called by a program or a test", file=sys.stderr)
-    return 1 if found else 0
+    print(f"uncalled.py: of {asked} public functions that may answer want of memory {len(lacking)} aren't called by a program or a test", file=sys.stderr)
+    # what can't fail so is told, and refuses nothing
+    others = [f for f in found if f not in lacking and not sources.gives_nothing(f)]
+    for function in others:
+        print(f"uncalled.py: no program and no test comes to {named(function)}", file=sys.stderr)
+    return 1 if lacking else 0
 
 
 if __name__ == "__main__":
