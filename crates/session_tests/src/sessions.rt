@@ -4,7 +4,6 @@ ghost use Rattle.std.specs.Prelude.{IfOk, IfSome};
 ghost use Rattle.sql_lexer.specs.Lexes.{Lexes};
 ghost use Rattle.sql_tree.specs.Regular.{Each, RegularStatement};
 
-use crate::runs::file;
 use bag_algebra::{Env, Query, Tables, is_plain};
 use csv_tables::DataError;
 use name_meaning::{Break, Rule};
@@ -190,6 +189,13 @@ fn an_entry_is_copied_with_what_it_remembers(rt: HostRuntime) -> Result<(), Fail
     assert!(rt; taken);
     assert_eq!(rt; count?, 1);
     Ok(())
+}
+
+fn file(alloc: Global, name: &str, content: &[u8]) -> Result<NamedFile, NoMemory> {
+    let mut bytes = Bytes::new(alloc);
+    bytes.add(content)?;
+    let name = Chars::from_text(alloc, name)?;
+    Ok(NamedFile { name, bytes })
 }
 
 /// The file `c` of so many records, and `d`, whose third record is too wide. The third call on the files fails.

@@ -1,5 +1,4 @@
-//! Tables of tests over runs of scripts and over sessions. What a contract says isn't tested, nor what the stored run of the program
-//! goes through.
+//! Tables of tests over runs of scripts. What a contract says isn't tested, nor what the stored run of the program goes through.
 #![tactic(auto)]
 
 #[cfg(test)]
@@ -14,7 +13,5 @@ mod limits;
 mod runs;
 #[cfg(test)]
 mod scripts;
-#[cfg(test)]
-mod sessions;
 #[cfg(test)]
 mod unfailing;
