@@ -5,6 +5,7 @@ use perm_engine::{SCRIPT_LIMIT, Status, Wanted, read_words};
 use perm_io::{Files, WatchedFiles, read_all};
 use perm_values::{Bytes, Chars};
 use refusal_notes::{Cause, cause_of, line_at, note};
+use refusal_tokens::token_hint;
 use std::alloc::Global;
 use std::{fs, rt};
 
@@ -46,7 +47,12 @@ fn told_in_script<R: rt::Files, F: Files + Drop>(
     match read_words(alloc, words) {
         Ok(Wanted::Script(name)) => {
             let script = script_again(alloc, rt, &name, files)?;
-            note(alloc, cause, name.bytes(), script.as_slice(), copied).ok()
+            let mut told = note(alloc, cause, name.bytes(), script.as_slice(), copied).ok()?;
+            if let Cause::At { code, at } = cause {
+                let hint = token_hint(alloc, code, script.as_slice(), at).ok()?;
+                told.add(hint.as_slice()).ok()?;
+            }
+            Some(told)
         }
         _ => None,
     }
