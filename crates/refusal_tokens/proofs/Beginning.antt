@@ -1,5 +1,5 @@
 -- Tokens begin a script exactly where none of them is unexpected, but their end may be.
-use Rattle.std.proofs.Common.{◌≡◌, ◌∙◌, ◌↔◌, ℕ, ◌==◌, Bool, true, false, IsTrue, List, [], ◌∷◌, ◌++◌, length, Option, Some, None, refl, sym, subst, arith, append-nil, append_assoc}
+use Rattle.std.proofs.Common.{◌≡◌, ◌∙◌, ℕ, List, [], ◌∷◌, ◌++◌, length, Some, None, refl, sym, subst, arith, append-nil, append_assoc}
 use Rattle.std.specs.List.{AllByRecursion}
 use Rattle.sql_lexer.specs.Lexes.{Lexes, MayRefuse, Refuses}
 use Rattle.sql_lexer.specs.Printing.{IsSpanned}

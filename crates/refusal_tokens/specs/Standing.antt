@@ -1,7 +1,7 @@
 -- What could stand at a place.
-use Rattle.std.specs.Prelude.{◌≡◌, ◌↔◌, ℕ, Bool, IsTrue, cond, List, [], ◌∷◌, ◌++◌, codes}
+use Rattle.std.specs.Prelude.{◌↔◌, ℕ, Bool, IsTrue, cond, List, [], ◌∷◌, ◌++◌, codes}
 use Rattle.refusal_tokens.specs.Begins.{BeginsScript}
-use Rattle.refusal_tokens.specs.Tables.{marks, names, operators, values, words}
+use Rattle.refusal_tokens.specs.Tables.{names, words}
 
 -- a text could stand behind a front: some script begins with the tokens of the front and those of the text
 abbrev pub CouldStand : List ℕ → List ℕ → Type 0
