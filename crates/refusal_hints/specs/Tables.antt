@@ -1,5 +1,5 @@
 -- What people try from other SQLs, and what they may write here. Words are in small letters.
-use Rattle.std.specs.Prelude.{ℕ, List, [], ◌∷◌, codes}
+use Rattle.std.specs.Prelude.{ℕ, List, [], ◌∷◌, ◌++◌, codes}
 use Rattle.refusal_hints.specs.Advice.{Row, row}
 
 abbrev pub averages : List ℕ
@@ -119,9 +119,9 @@ row_numbers = codes "rows have no number of their own"
 abbrev pub text_quotes : List ℕ
 text_quotes = codes "double quotes stand around names: a text stands between single ones"
 
--- what may stand where a script is refused, or just before
-unfoldable pub texts : List Row
-texts =
+-- what people try in a query
+abbrev pub query_texts : List Row
+query_texts =
     row (codes "avg") averages ∷
     row (codes "offset") offsets ∷
     row (codes "fetch") offsets ∷
@@ -148,6 +148,11 @@ texts =
     row (codes "extract") dates ∷
     row (codes "strftime") dates ∷
     row (codes "using") usings ∷
+    []
+
+-- kinds, marks, and what people write behind a column
+abbrev pub column_texts : List Row
+column_texts =
     row (codes "decimal") decimals ∷
     row (codes "numeric") decimals ∷
     row (codes "real") decimals ∷
@@ -175,6 +180,11 @@ texts =
     row (codes "default") keys ∷
     row (codes "not") keys ∷
     row (codes "if") conditions ∷
+    []
+
+-- what people try in a condition, and functions
+abbrev pub call_texts : List Row
+call_texts =
     row (codes "ilike") patterns ∷
     row (codes "regexp") patterns ∷
     row (codes "similar") patterns ∷
@@ -200,6 +210,11 @@ texts =
     row (codes "string_agg") functions ∷
     row (codes "group_concat") functions ∷
     row (codes "total") functions ∷
+    []
+
+-- what people try as a statement, and other marks
+abbrev pub script_texts : List Row
+script_texts =
     row (codes "alter") alterations ∷
     row (codes "truncate") alterations ∷
     row (codes "begin") transactions ∷
@@ -222,6 +237,10 @@ texts =
     row (255 ∷ 254 ∷ []) wide_texts ∷
     row (254 ∷ 255 ∷ []) wide_texts ∷
     []
+
+-- what may stand where a script is refused, or just before
+unfoldable pub texts : List Row
+texts = query_texts ++ column_texts ++ call_texts ++ script_texts
 
 -- words of a statement that is refused further behind
 unfoldable pub statement_words : List Row

@@ -1,9 +1,10 @@
 //! What people try from other SQLs, and what they may write here.
 ghost use Rattle.std.specs.Prelude.{◌≡◌};
 ghost use Rattle.refusal_hints.specs.Advice.{advice_in};
-ghost use Rattle.refusal_hints.specs.Tables.{name_texts, statement_words, texts};
+ghost use Rattle.refusal_hints.specs.Tables.{call_texts, column_texts, name_texts, query_texts, script_texts, statement_words, texts};
 
 use crate::advice::{Advised, advice_in};
+use crate::slices::or_else;
 
 const AVERAGES: &[u8] = b"there is no AVG: SUM(x) / COUNT(x) is it, cut to a whole number";
 
@@ -93,7 +94,7 @@ const ROW_NUMBERS: &[u8] = b"rows have no number of their own";
 
 const TEXT_QUOTES: &[u8] = b"double quotes stand around names: a text stands between single ones";
 
-const TEXTS: [Advised; 99] = [
+const QUERY_TEXTS: [Advised; 26] = [
     Advised {
         text: b"avg",
         advice: AVERAGES,
@@ -198,6 +199,16 @@ const TEXTS: [Advised; 99] = [
         text: b"using",
         advice: USINGS,
     },
+];
+
+/// The advice for what people try in a query.
+fn query_advice(text: &[u8]) -> &'static [u8]
+    ensures { result.now ≡ advice_in query_texts text.now }
+{
+    advice_in(&QUERY_TEXTS, text)
+}
+
+const COLUMN_TEXTS: [Advised; 27] = [
     Advised {
         text: b"decimal",
         advice: DECIMALS,
@@ -306,6 +317,16 @@ const TEXTS: [Advised; 99] = [
         text: b"if",
         advice: CONDITIONS,
     },
+];
+
+/// The advice for kinds, for marks, and for what people write behind a column.
+fn column_advice(text: &[u8]) -> &'static [u8]
+    ensures { result.now ≡ advice_in column_texts text.now }
+{
+    advice_in(&COLUMN_TEXTS, text)
+}
+
+const CALL_TEXTS: [Advised; 25] = [
     Advised {
         text: b"ilike",
         advice: PATTERNS,
@@ -406,6 +427,16 @@ const TEXTS: [Advised; 99] = [
         text: b"total",
         advice: FUNCTIONS,
     },
+];
+
+/// The advice for what people try in a condition, and for functions.
+fn call_advice(text: &[u8]) -> &'static [u8]
+    ensures { result.now ≡ advice_in call_texts text.now }
+{
+    advice_in(&CALL_TEXTS, text)
+}
+
+const SCRIPT_TEXTS: [Advised; 21] = [
     Advised {
         text: b"alter",
         advice: ALTERATIONS,
@@ -492,12 +523,19 @@ const TEXTS: [Advised; 99] = [
     },
 ];
 
+/// The advice for what people try as a statement, and for other marks.
+fn script_advice(text: &[u8]) -> &'static [u8]
+    ensures { result.now ≡ advice_in script_texts text.now }
+{
+    advice_in(&SCRIPT_TEXTS, text)
+}
+
 /// The advice for a text where a script is refused, or just before.
-#[tactic(auto, unfolding(crate::specs::Tables::texts))]
 pub(crate) fn text_advice(text: &[u8]) -> &'static [u8]
     ensures { result.now ≡ advice_in texts text.now }
 {
-    advice_in(&TEXTS, text)
+    let further = or_else(call_advice(text), script_advice(text));
+    or_else(query_advice(text), or_else(column_advice(text), further))
 }
 
 const STATEMENT_WORDS: [Advised; 3] = [
