@@ -14,3 +14,4 @@ pub mod MatchingSteps
 pub mod MovedSteps
 pub mod MovedRows
 pub mod WholeRules
+pub mod DecidingValues

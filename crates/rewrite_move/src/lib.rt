@@ -4,6 +4,7 @@
 
 mod below;
 mod contributions;
+mod dependent;
 mod forced;
 mod known;
 mod laws;
@@ -11,5 +12,6 @@ mod rules;
 mod share;
 
 pub use below::traced;
+pub use dependent::all_dependent;
 pub use laws::{traced_sublinks_contribute_the_same, what_stands_for_a_rewriting_is_one};
 pub use rules::{filter_moved, filter_traced, project_moved, project_traced};

@@ -1,11 +1,7 @@
-use Rattle.std.proofs.Common.{All}
-use Rattle.perm_values.proofs.Results.{where_made}
-use Rattle.rewrite_core.specs.rewritings.OpenSublinks.{IsClosedSublink, NoOpenSublink}
+use Rattle.std.proofs.Common.{◌∙◌, sym}
 use Rattle.rewrite_driver.proofs.joins.join_traced.Goals as goal
+use Rattle.rewrite_move.proofs.DecidingValues.{rewritten-dependent}
 
-pub returns-clause-none_open : goal.returns-clause-none_open
-returns-clause-none_open c =
-    where_made _ (λ p. NoOpenSublink c.args.lefts → NoOpenSublink c.args.rights → All IsClosedSublink c.args.standing.now → All NoOpenSublink c.args.rewritings →
-    NoOpenSublink p) c.over_pairs.result
-    (λ p made g h s k. made g h (where_made _ (λ pairs. NoOpenSublink pairs) c.filter_traced-met.result (λ pairs kept. kept (c.in-Ok.ensures.none_open g h) s k) c.filter_traced-met.ensures.none_open))
-    c.over_pairs.ensures.none_open
+pub join_lateral-requires-clause-rewritten : goal.join_lateral-requires-clause-rewritten
+join_lateral-requires-clause-rewritten c =
+    rewritten-dependent c.args.condition.now c.args.subs.now c.as_slice.result.now c.args.rewritings (sym c.in_ok-dependent.ensures ∙ c.if-dependent.true) c.requires.subs_rewritten
