@@ -36,6 +36,7 @@ pub mod SetRows
 pub mod SmallGrammar
 pub mod SourceRows
 pub mod SpineRows
+pub mod StandingTokens
 pub mod Trees
 pub mod Values
 pub mod WhichColumns
