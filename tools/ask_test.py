@@ -125,6 +125,15 @@ class Tokens(unittest.TestCase):
     def test_sqlite_patterns(self):
         self.assertEqual(sqlite_text.glob("a%_*[?"), "a*?[*][[][?]")
 
+    def test_a_list_of_one_subquery_stays_a_list(self):
+        text = 'SELECT "r"."a" IN ((SELECT "s"."a" FROM "r" AS "s" LIMIT 1)) AS "x" FROM "r";'
+        self.assertIn('IN (COALESCE((SELECT "s"."a" FROM "r" AS "s" LIMIT 1), NULL))', self.postgres(text))
+        self.assertIn("IN (COALESCE((SELECT `s`.`a` FROM `r` AS `s` LIMIT 1), NULL))", self.sqlite(text))
+
+    def test_sqlite_reads_in_beside_a_comparison(self):
+        text = 'SELECT TRUE >= "r"."a" + 1 IN (SELECT "s"."a" FROM "r" AS "s") AS "x" FROM "r";'
+        self.assertIn("TRUE >= (perm_plus(`r`.`a` , 1) IN (SELECT `s`.`a` FROM `r` AS `s`)) AS", self.sqlite(text))
+
     def test_a_lateral_query_is_a_join_where_it_can_be(self):
         text = """SELECT "r"."a", "y"."c" FROM "r" {} JOIN LATERAL (SELECT "s"."c" FROM "r" AS "s" WHERE "s"."c" > 2 AND (("s"."a" = "r"."a") IS TRUE)) AS "y"{};"""
         joined = '(SELECT "s"."c", "s"."a" AS "joined_on01" FROM "r" AS "s" WHERE "s"."c" > 2 AND TRUE ) AS "y" ON "y"."joined_on01" = "r"."a"'
@@ -207,6 +216,8 @@ SELECT x.a, y.b FROM r x FULL JOIN r y ON x.a < y.a ORDER BY 2 DESC;
 SELECT a FROM r ORDER BY a LIMIT 3; SELECT a / 2 AS q, a % 2 AS m, -a AS n, b LIKE '_' AS l, b NOT LIKE 'z%' AS k FROM r;
 SELECT PROVENANCE b, COUNT(*) FROM r GROUP BY b UNION ALL SELECT b, NULL FROM r INTERSECT SELECT 'x', 1;
 SELECT b FROM r UNION ALL SELECT b FROM r EXCEPT ALL SELECT b FROM r INTERSECT ALL SELECT NULL FROM r ORDER BY 1 DESC;
+SELECT a FROM r WHERE a NOT IN ((SELECT c.a FROM r c WHERE c.a > 5)) OR a IN ((SELECT MAX(c.a) FROM r c));
+SELECT a, TRUE > a IN (SELECT c.a FROM r c WHERE c.a > 1) AS x, a IN (SELECT c.a FROM r c) < (b = 'x') AS y FROM r;
 """
         with tempfile.TemporaryDirectory() as folder:
             pathlib.Path(folder, "s.sql").write_text(made + asks)

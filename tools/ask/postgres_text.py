@@ -1,7 +1,7 @@
 """Makes a printed text safe for PostgreSQL: a pass over its tokens. docs/DATABASES.md has the table of what it does."""
 from .laterals import join, parted
 from .printed import Draft, chains, quoted, steps
-from .safety import Safe, columns_of, may_fault, order_by_all, read_tables
+from .safety import Safe, columns_of, lists_of_one, may_fault, order_by_all, read_tables
 from .scopes import INTEGER, TEXT, Scopes
 
 
@@ -17,6 +17,7 @@ def safe(text, tables, bytewise=True):
         collate_literals(draft)
     whole_sums(draft)
     wide_arithmetic(draft)
+    lists_of_one(draft)
     compare_by_equality(draft, scopes)
     hash_full_joins(draft, scopes)
     order_by_all(draft, len(scopes.names()), str)

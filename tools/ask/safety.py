@@ -73,6 +73,14 @@ def stands_for_value(draft, at):
     return not draft.word(draft.partner[at] + 1, "as") or not is_source_comma(draft, at - 1)
 
 
+def lists_of_one(draft):
+    """A subquery that is the one value of a list, which an engine would read as the query that IN asks."""
+    for at in range(len(draft)):
+        alone = draft.word(at, "in") and draft.mark(at + 1, "(") and draft.mark(at + 2, "(") and draft.word(at + 3, "select")
+        if alone and draft.partner[at + 2] + 1 == draft.partner[at + 1]:
+            draft.around(at + 2, draft.partner[at + 2], "COALESCE(", ", NULL)")
+
+
 def is_source_comma(draft, at):
     """Whether the comma there stands between sources: the nearest word of a clause before it, on its level, is FROM."""
     depth = 0

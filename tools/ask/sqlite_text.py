@@ -5,9 +5,10 @@ float or with the first of several rows.
 """
 from .laterals import join, parted
 from .printed import Draft, chains, quoted, steps
-from .safety import Safe, Unsayable, columns_of, may_fault, order_by_all, read_tables, several, sort_keys
+from .safety import Safe, Unsayable, columns_of, lists_of_one, may_fault, order_by_all, read_tables, several, sort_keys
 from .scopes import Scopes
 
+COMPARISONS = ("=", "<>", "<", "<=", ">", ">=")
 FUNCTION = {"+": "perm_plus", "-": "perm_minus", "*": "perm_times", "/": "perm_quotient", "%": "perm_remainder"}
 
 
@@ -20,7 +21,9 @@ def safe(text, tables):
     by_bytes(draft)
     lateral_by_lists(draft, scopes)
     single_rows(draft)
+    lists_of_one(draft)
     checked_arithmetic(draft)
+    lists_apart(draft)
     quantified(draft)
     numbered_copies(draft, scopes)
     for at in range(len(draft)):
@@ -133,12 +136,24 @@ def checked_arithmetic(draft):
             draft.behind[draft.last_of(at + 1)] += ")"
 
 
+def lists_apart(draft):
+    """IN binds as loosely as `=` in SQLite, and more loosely than `<`: beside a comparison it gets parentheses."""
+    for at in range(len(draft)):
+        if not draft.word(at, "in") or not draft.mark(at + 1, "("):
+            continue
+        first, last = draft.first_of(at - 2 if draft.word(at - 1, "not") else at - 1), draft.partner[at + 1]
+        while draft.is_operator(first - 1):
+            first = draft.first_of(first - 2)
+        if draft.mark(first - 1, *COMPARISONS) or draft.mark(last + 1, *COMPARISONS) or draft.word(first - 2, "distinct", "from"):
+            draft.around(first, last, "(", ")")
+
+
 def quantified(draft):
     """A comparison with ANY or ALL by the least or the greatest of what it gives, and unknown by a count."""
     rows, value, found = (quoted(draft.fresh(it)) for it in ("rows", "value", "found"))
     for at in range(len(draft)):
         asked = draft.one_of(at, ("any", "all")) and draft.mark(at + 1, "(") and draft.word(at + 2, "select")
-        if not asked or not draft.mark(at - 1, "=", "<>", "<", "<=", ">", ">="):
+        if not asked or not draft.mark(at - 1, *COMPARISONS):
             continue
         first, last = draft.first_of(at - 2), draft.partner[at + 1]
         decided, other = (f"MAX({found}) = 1 THEN 1", 0) if draft.word(at, "any") else (f"MIN({found}) = 0 THEN 0", 1)
