@@ -124,6 +124,8 @@ class Tokens(unittest.TestCase):
 
     def test_sqlite_patterns(self):
         self.assertEqual(sqlite_text.glob("a%_*[?"), "a*?[*][[][?]")
+        text = 'SELECT "r"."b" LIKE (SELECT "s"."b" FROM "r" AS "s") AS "x" FROM "r";'
+        self.assertIn("GLOB perm_pattern((SELECT CASE WHEN COUNT(*) > 1", self.sqlite(text))
 
     def test_a_list_of_one_subquery_stays_a_list(self):
         text = 'SELECT "r"."a" IN ((SELECT "s"."a" FROM "r" AS "s" LIMIT 1)) AS "x" FROM "r";'
