@@ -1,5 +1,5 @@
 #!/usr/bin/env python3
-"""Writes docs/THEOREMS.md, an index of the laws: theorems.py [--check].
+"""Writes docs/LAWS.md, an index of the laws: laws.py [--check].
 
 A law is a public function of a crate's src/ without parameters and without a result, whose body is empty or calls other laws:
 its contract is the theorem, and its `///` lines say it in words. The crates stand in the order of crates.txt, from the lowest to the
@@ -10,12 +10,12 @@ import re
 import sys
 
 TOP = pathlib.Path(__file__).resolve().parent.parent
-PAGE = TOP / "docs" / "THEOREMS.md"
+PAGE = TOP / "docs" / "LAWS.md"
 LAW = re.compile(r"^pub fn (\w+)\(\)$")
 CALLS = re.compile(r"(?: {4}\w+\(\);)*")
 HEAD = """# Theorems
 
-The laws of the crates, from the lowest crate to the highest: {count} of them, in {files} files of {crates} crates. `tools/theorems.py` writes this
+The laws of the crates, from the lowest crate to the highest: {count} of them, in {files} files of {crates} crates. `tools/laws.py` writes this
 page of the sources, and `./check` compares it.
 
 A law is the contract of a public function that does nothing: behind its `ensures` stands the theorem, and its words here are those above
@@ -69,12 +69,12 @@ def page():
 
 def main():
     if sys.argv[1:] not in ([], ["--check"]):
-        sys.exit("usage: theorems.py [--check]")
+        sys.exit("usage: laws.py [--check]")
     text = page()
     if not sys.argv[1:]:
         PAGE.write_text(text)
     elif not PAGE.exists() or PAGE.read_text() != text:
-        sys.exit(f"theorems: {PAGE.relative_to(TOP)} lists other laws than the sources have; tools/theorems.py writes it")
+        sys.exit(f"theorems: {PAGE.relative_to(TOP)} lists other laws than the sources have; tools/laws.py writes it")
 
 
 main()
