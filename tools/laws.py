@@ -13,7 +13,7 @@ TOP = pathlib.Path(__file__).resolve().parent.parent
 PAGE = TOP / "docs" / "LAWS.md"
 LAW = re.compile(r"^pub fn (\w+)\(\)$")
 CALLS = re.compile(r"(?: {4}\w+\(\);)*")
-HEAD = """# Theorems
+HEAD = """# Laws
 
 The laws of the crates, from the lowest crate to the highest: {count} of them, in {files} files of {crates} crates. `tools/laws.py` writes this
 page of the sources, and `./check` compares it.
@@ -74,7 +74,7 @@ def main():
     if not sys.argv[1:]:
         PAGE.write_text(text)
     elif not PAGE.exists() or PAGE.read_text() != text:
-        sys.exit(f"theorems: {PAGE.relative_to(TOP)} lists other laws than the sources have; tools/laws.py writes it")
+        sys.exit(f"laws: {PAGE.relative_to(TOP)} lists other laws than the sources have; tools/laws.py writes it")
 
 
 main()
