@@ -374,6 +374,13 @@ class OnPostgres(Scripts):
         self.assertEqual(asked(database, "SELECT * FROM f;", "--schema", "other", "--schema", "public")[:2], (0, '"a"\n(0 rows)\n'))
         self.assertEqual(asked(database, "SELECT 1;", "--schema", "nosuch")[0], 11)
 
+    def test_what_fails_leaves_the_transaction_whole(self):
+        database = self.make("CREATE TABLE r (a INTEGER); INSERT INTO r VALUES (1);")
+        with contextlib.closing(session.opened(database, session.Options(PROGRAM), False)) as engine:
+            with mock.patch.object(on_postgres, "RELATION", "SELECT 1 / 0 WHERE %s IS NOT NULL AND %s IS NOT NULL AND %s IS NOT NULL"):
+                self.assertEqual(over(engine, "SELECT a FROM r;")[0], 11)
+            self.assertEqual(over(engine, "SELECT a FROM r;")[:2], (0, '"a"\n1\n(1 rows)\n'))
+
     def test_texts_compare_by_their_bytes(self):
         database = self.make("CREATE TABLE r (b TEXT); INSERT INTO r VALUES ('a'), ('B'), ('Z'), (NULL)",
                              "TEMPLATE template0 LOCALE_PROVIDER icu ICU_LOCALE 'en'")

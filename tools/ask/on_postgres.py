@@ -1,4 +1,5 @@
 """PostgreSQL as an engine: its connection, and how its tables are read."""
+import contextlib
 import importlib
 import os
 import sys
@@ -120,10 +121,11 @@ class PostgreSQL:
     def tables(self, names, _):
         """The readings of the tables that have these names, each in the first schema that has one."""
         found = {}
-        for name in names:
-            relation = self.ask(RELATION, (name, self.schemas, self.schemas))
-            if relation:
-                found[name] = self.table(name, *relation[0])
+        with self.whole():
+            for name in names:
+                relation = self.ask(RELATION, (name, self.schemas, self.schemas))
+                if relation:
+                    found[name] = self.table(name, *relation[0])
         return found
 
     def table(self, name, oid, schema):
@@ -158,28 +160,29 @@ class PostgreSQL:
     def safe(self, text, tables):
         return postgres_text.safe(text, tables, self.bytewise)
 
-    def rows(self, text):
-        """Lists of rows, by a cursor of the server."""
+    @contextlib.contextmanager
+    def whole(self):
+        """What is asked inside is done whole or not at all, and where it fails the transaction goes on."""
         self.ask("SAVEPOINT perm_statement")
         try:
+            yield
+            self.ask("RELEASE perm_statement")
+        except Failure:
+            self.ask("ROLLBACK TO perm_statement")
+            raise
+
+    def rows(self, text):
+        """Lists of rows, by a cursor of the server."""
+        with self.whole():
             self.ask(f"DECLARE perm_answer NO SCROLL CURSOR FOR {text}")
             while rows := self.ask(f"FETCH {self.fetched} FROM perm_answer"):
                 yield rows
             self.ask("CLOSE perm_answer")
-        except Failure:
-            self.ask("ROLLBACK TO perm_statement")
-            raise
-        self.ask("RELEASE perm_statement")
 
     def try_statement(self, text):
         """Runs what writes, whole or not at all."""
-        self.ask("SAVEPOINT perm_statement")
-        try:
+        with self.whole():
             self.ask(text)
-        except Failure:
-            self.ask("ROLLBACK TO perm_statement")
-            raise
-        self.ask("RELEASE perm_statement")
 
     def fingerprint(self, table):
         """The number of the table's rows and sums over them that tell other rows apart."""
